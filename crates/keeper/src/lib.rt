@@ -1,0 +1,2 @@
+// Range keepers.
+pub mod keeper;

@@ -1,0 +1,6 @@
+// The source: register conditions as a list of orders.
+//
+// An order adds one row to the source or requires one. This layer has the widths and sorts of the rows
+// and the orders as they stand in a plain list, each with its place in the script it was read from.
+pub mod width;
+pub mod order;
