@@ -1,0 +1,4 @@
+// Scripts: tokens, and the reader that turns a script into orders.
+pub mod token;
+pub mod names;
+pub mod command;
