@@ -1,0 +1,5 @@
+pub mod Pages
+pub mod Held
+pub mod Room
+pub mod Declare
+pub mod Feed
