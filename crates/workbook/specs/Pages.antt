@@ -5,6 +5,7 @@ use Rattle.source.specs.declared.order.Source.{Source}
 use Rattle.target.specs.declared.assertion.Assertion.{Assertion}
 use Rattle.target.specs.declared.row.Row.{Row}
 use Rattle.workbook.specs.declared.book.Open.{Open}
+use Rattle.workbook.specs.declared.counts.Counts.{Counts}
 use Rattle.workbook.specs.declared.tables.Tables.{Tables}
 
 -- how much of the tables is in use, and the tables from end to end; R is the keeper's kind of record
@@ -17,13 +18,17 @@ pub record Pages (R : Type 0) : Type 0 where
   pub rows : List Row
   pub assertions : List Assertion
 
--- the workbook of the code with the tables that are lent to it
-abbrev pub pagesIn : {R : Type 0} → Open → Tables R → Pages R
-pagesIn book t = record {
-    source-count = book .counts .sources;
-    row-count = book .counts .rows;
-    assertion-count = book .counts .assertions;
+-- tables of the code with so much of them in use
+abbrev pub pagesAt : {R : Type 0} → Counts → Tables R → Pages R
+pagesAt counts t = record {
+    source-count = counts .sources;
+    row-count = counts .rows;
+    assertion-count = counts .assertions;
     sources = t .sources .now;
     records = t .records .now;
     rows = t .rows .now;
     assertions = t .assertions .now }
+
+-- an open workbook with the tables that are lent to it
+abbrev pub pagesIn : {R : Type 0} → Open → Tables R → Pages R
+pagesIn book t = pagesAt (book .counts) t

@@ -1,6 +1,6 @@
 -- Which tables are too short or full.
 use mathlib.Core.Bool.{Bool, cond, _||_}
-use Prim.Native.Nat.{ℕ, _+_, min}
+use Prim.Native.Nat.{ℕ, _+_, _≤_, min}
 use lib.Dec.{leb, ltb}
 use lib.ListN.{length}
 use Rattle.std.specs.declared.option.Option.{Option}
@@ -8,6 +8,13 @@ use Rattle.std.specs.declared.option.Option.the-variants.{Some, None}
 use Rattle.refusal.specs.declared.Cause.{Cause}
 use Rattle.refusal.specs.declared.Cause.the-variants.{SourcesFull, TargetFull}
 use Rattle.workbook.specs.Pages.{Pages}
+
+-- every table is as long as its count
+pub record Long {R : Type 0} (p : Pages R) : Type 0 where
+  pub long-sources : p .source-count ≤ length (p .sources)
+  pub long-records : p .source-count ≤ length (p .records)
+  pub long-rows : p .row-count ≤ length (p .rows)
+  pub long-assertions : p .assertion-count ≤ length (p .assertions)
 
 module _ {R : Type 0} (p : Pages R) where
   -- a table that is shorter than its count
