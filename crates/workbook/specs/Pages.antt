@@ -1,6 +1,6 @@
 -- A workbook with its tables.
 use mathlib.Core.List.{List}
-use Prim.Native.Nat.{ℕ}
+use Prim.Native.Nat.{ℕ, zero-le}
 use Rattle.source.specs.declared.order.Source.{Source}
 use Rattle.target.specs.declared.assertion.Assertion.{Assertion}
 use Rattle.target.specs.declared.row.Row.{Row}
@@ -28,6 +28,10 @@ pagesAt counts t = record {
     records = t .records .now;
     rows = t .rows .now;
     assertions = t .assertions .now }
+
+-- the counts of an empty workbook
+abbrev pub nothingUsed : Counts
+nothingUsed = record { sources = 0; rows = 0; assertions = 0; within = (zero-le, zero-le, zero-le) }
 
 -- an open workbook with the tables that are lent to it
 abbrev pub pagesIn : {R : Type 0} → Open → Tables R → Pages R

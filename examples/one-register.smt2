@@ -1,0 +1,4 @@
+; One 4-bit register and no condition.
+(set-logic QF_BV)
+(declare-const x (_ BitVec 4))
+(check-sat)
