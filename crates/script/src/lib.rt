@@ -2,3 +2,4 @@
 pub mod token;
 pub mod names;
 pub mod command;
+mod bytes;
