@@ -3,3 +3,4 @@ pub mod token;
 pub mod names;
 pub mod command;
 mod bytes;
+pub mod numeral;
