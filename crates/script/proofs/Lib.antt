@@ -1,3 +1,4 @@
 pub mod Skips
 pub mod Texts
 pub mod Values
+pub mod Lexing

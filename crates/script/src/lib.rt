@@ -4,3 +4,4 @@ pub mod names;
 pub mod command;
 mod bytes;
 pub mod numeral;
+pub mod lexer;
