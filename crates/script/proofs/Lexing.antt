@@ -6,7 +6,7 @@ use Prim.Native.Nat.{ℕ, _+_, _-_, _<_, _≤_}
 use native.Mathlib.Omega.{arith}
 use lib.ListN.{length, take, drop, getD}
 use Rattle.std.specs.shelf.Lists.{leading}
-use Rattle.std.proofs.shelf.Tests.{eq-eqb, ne-eqb, lt-ltb}
+use Rattle.std.proofs.shelf.Tests.{eq-eqb, ne-eqb, lt-ltb, cond-true, cond-false}
 use Rattle.std.proofs.shelf.Lists.{drop-more, drop-all, take-rest}
 use Rattle.script.specs.declared.token.Class.{Class}
 use Rattle.script.specs.declared.token.Class.the-variants.{Atom}
@@ -39,11 +39,11 @@ module _ (s : List ℕ) (start p : ℕ) (at : p ≡ start + skipped false (drop 
 
     module _ (no40 : getD s p 0 ≡ 40 → ⊥) (no41 : getD s p 0 ≡ 41 → ⊥) where
       pub at-other : atomic (getD s p 0) ≡ false → malformed p ≡ tokenAt s start
-      at-other y = (rw (y, ne-eqb _ 40 no40, ne-eqb _ 41 no41) refl) ∙ reads
+      at-other y = rw (y, ne-eqb _ 40 no40, ne-eqb _ 41 no41) at reads
 
       pub at-atom : (a : ℕ) → a ≡ p + leading (within Atom) (drop p s) → atomic (getD s p 0) ≡ true → atomToken (getD s p 0) (take (a - p) (drop p s)) p ≡ tokenAt s start
       at-atom a e y =
           let d : a - p ≡ leading (within Atom) (drop p s) = omega arith in
           ap (λ n. atomToken (getD s p 0) (take n (drop p s)) p) d
           ∙ (ap (λ xs. atomToken (getD s p 0) (atomOf xs) p) (drop-more s p 0 h)
-          ∙ ((rw (y, ne-eqb _ 40 no40, ne-eqb _ 41 no41) refl) ∙ reads))
+          ∙ (sym (cond-false _ _ _ (ne-eqb (getD s p 0) 40 no40) ∙ (cond-false _ _ _ (ne-eqb (getD s p 0) 41 no41) ∙ cond-true _ _ _ y)) ∙ reads))

@@ -2,3 +2,4 @@ pub mod Skips
 pub mod Texts
 pub mod Values
 pub mod Lexing
+pub mod Tables

@@ -4,6 +4,7 @@ ghost use mathlib.Core.Bool.{false};
 ghost use Prim.Native.Nat.{_+_, _≤_, max};
 ghost use lib.ListN.{length, drop};
 ghost use Rattle.std.specs.shelf.Lists.{leading};
+ghost use Rattle.std.specs.shelf.Text.{sameBytes};
 ghost use Rattle.script.specs.Bytes.{lineEnd, blank, within, all, skipped};
 ghost use Rattle.script.specs.Reading.{textIn};
 use crate::token::Class;
@@ -83,4 +84,11 @@ pub fn between<'a>(script: &'a [u8], from: usize, to: usize) -> &'a [u8]
     let end = if to < script.len() { to } else { script.len() };
     let start = if from < end { from } else { end };
     &script[start..end]
+}
+
+// Whether two texts are the same, byte for byte.
+pub fn same(text: &[u8], word: &[u8]) -> bool
+    ensures { λ r. ⌜ r ≡ sameBytes (now (text .entry)) (now (word .entry)) ⌝ }
+{
+    text == word
 }

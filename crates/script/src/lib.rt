@@ -5,3 +5,4 @@ pub mod command;
 mod bytes;
 pub mod numeral;
 pub mod lexer;
+pub mod words;
