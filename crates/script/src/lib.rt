@@ -6,3 +6,4 @@ mod bytes;
 pub mod numeral;
 pub mod lexer;
 pub mod words;
+mod steps;
