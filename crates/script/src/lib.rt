@@ -7,3 +7,4 @@ pub mod numeral;
 pub mod lexer;
 pub mod words;
 mod steps;
+mod declaration;
