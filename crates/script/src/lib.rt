@@ -8,3 +8,4 @@ pub mod lexer;
 pub mod words;
 mod steps;
 mod declaration;
+pub mod read;
