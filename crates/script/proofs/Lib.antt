@@ -3,3 +3,4 @@ pub mod Texts
 pub mod Values
 pub mod Lexing
 pub mod Tables
+pub mod Turns

@@ -6,3 +6,4 @@ pub mod Reading
 pub mod Grammar
 pub mod Law
 pub mod Found
+pub mod Filled

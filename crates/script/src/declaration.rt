@@ -1,5 +1,8 @@
 // Declarations: the name, the parameters and the sort of a register.
 ghost use mathlib.Core.Path.{_≡_};
+ghost use Prim.Native.Nat.{_<_};
+ghost use lib.ListN.{length};
+ghost use Rattle.std.specs.Vec.{made};
 ghost use Rattle.script.specs.Tokens.{tokenAt};
 ghost use Rattle.script.specs.Words.{among};
 ghost use Rattle.script.specs.Reading.{badName, full as fullAt, takeName, texts, textIn, sortAt, parametersAt, declarationAt};
@@ -38,7 +41,8 @@ fn is_taken(script: &[u8], names: &[Name], text: &[u8]) -> bool
 
 // A register's name at a span, unless it is reserved or repeated or there is no room for it.
 fn take_name(script: &[u8], names: &[Name], room: usize, span: Span) -> Result<Span, Refusal>
-    ensures { λ r. ⌜ r ≡ takeName (texts (tokenAt (now (script .entry))) (textIn (now (script .entry))) (now (names .entry))) room (textIn (now (script .entry)) (span .place) (span .after)) span ⌝ }
+    ensures value { λ r. ⌜ r ≡ takeName (texts (tokenAt (now (script .entry))) (textIn (now (script .entry))) (now (names .entry))) room (textIn (now (script .entry)) (span .place) (span .after)) span ⌝ }
+    ensures room { λ r. ⌜ made r (λ s. length (now (names .entry)) < room) ⌝ }
 {
     let text = between(script, span.place, span.after);
     if is_reserved(text) {
@@ -81,7 +85,8 @@ fn parameters(script: &[u8], form: Form, from: usize) -> Result<usize, Refusal>
 
 // The rest of a declaration, after its word. `names` are those so far, and `room` is how many there may be.
 pub fn declaration(script: &[u8], names: &[Name], room: usize, form: Form, from: usize) -> Result<Declaration, Refusal>
-    ensures { λ r. ⌜ r ≡ declarationAt (tokenAt (now (script .entry))) (textIn (now (script .entry))) room form (now (names .entry)) from ⌝ }
+    ensures value { λ r. ⌜ r ≡ declarationAt (tokenAt (now (script .entry))) (textIn (now (script .entry))) room form (now (names .entry)) from ⌝ }
+    ensures room { λ r. ⌜ made r (λ d. length (now (names .entry)) < room) ⌝ }
 {
     let span = name(script, from)?;
     let title = take_name(script, names, room, span)?;
