@@ -4,3 +4,4 @@ pub mod Values
 pub mod Lexing
 pub mod Tables
 pub mod Turns
+pub mod Whole

@@ -4,8 +4,8 @@ ghost use Prim.Native.Nat.{min};
 ghost use lib.ListN.{length, replicate};
 ghost use Rattle.script.specs.Tokens.{tokenAt};
 ghost use Rattle.script.specs.Steps.{isClose, isEnd, accept, andThen};
-ghost use Rattle.script.specs.Reading.{textIn, prologueAt, blankOrder, blankName, answerOf};
-ghost use Rattle.script.specs.Filled.{commandsFor, Filled};
+ghost use Rattle.script.specs.Reading.{textIn, prologueAt, blankOrder, blankName, padded, answerOf, ordersLeft, namesLeft};
+ghost use Rattle.script.specs.Filled.{readingFor, commandsFor, Filled};
 use refusal::Refusal;
 use source::order::{Act, Order};
 use crate::command::Keyword;
@@ -14,6 +14,7 @@ use crate::names::Name;
 use crate::steps::{close, end, keyword, open, word};
 use crate::token::Span;
 
+const SCRIPT_LIMIT: usize = 65536;
 const ORDER_LIMIT: usize = 1024;
 const NAME_LIMIT: usize = 256;
 
@@ -86,4 +87,44 @@ fn commands(script: &[u8], orders: &mut [Order], names: &mut [Name], from: usize
             }
         }
     }
+}
+
+// A script, read into tables that are blank.
+fn attempt(script: &[u8], orders: &mut [Order], names: &mut [Name]) -> Result<usize, Refusal>
+    requires orders { ⌜ now orders ≡ replicate (length (now orders)) blankOrder ⌝ }
+    requires names { ⌜ now names ≡ replicate (length (now names)) blankName ⌝ }
+    ensures answer { λ r. ⌜ r ≡ answerOf (readingFor (now (orders .entry)) (now (names .entry)) (now (script .entry))) ⌝ }
+    ensures tables { λ r. ⌜ Filled (readingFor (now (orders .entry)) (now (names .entry)) (now (script .entry))) (now (orders .exit)) (now (names .exit)) ⌝ }
+{
+    if script.len() > SCRIPT_LIMIT {
+        return Err(full(SCRIPT_LIMIT));
+    }
+    let start = prologue(script, 0)?;
+    commands(script, orders, names, start)
+}
+
+// A script, read into tables that may hold anything: they are blanked first, and again at a refusal.
+fn read_over(script: &[u8], orders: &mut [Order], names: &mut [Name]) -> Result<usize, Refusal>
+    ensures answer { λ r. ⌜ r ≡ answerOf (readingFor (now (orders .entry)) (now (names .entry)) (now (script .entry))) ⌝ }
+    ensures orders { λ _. ⌜ now (orders .exit) ≡ padded (length (now (orders .entry))) blankOrder (ordersLeft (readingFor (now (orders .entry)) (now (names .entry)) (now (script .entry)))) ⌝ }
+    ensures names { λ _. ⌜ now (names .exit) ≡ padded (length (now (names .entry))) blankName (namesLeft (readingFor (now (orders .entry)) (now (names .entry)) (now (script .entry)))) ⌝ }
+{
+    blank(orders, names);
+    match attempt(script, orders, names) {
+        Ok(count) => Ok(count),
+        Err(refusal) => {
+            blank(orders, names);
+            Err(refusal)
+        }
+    }
+}
+
+// Reads a script. The order table then holds its orders and the name table its names, each blank after
+// them, and the answer is how many orders there are. At a refusal both tables are blank.
+pub fn read(script: &[u8], orders: &mut [Order], names: &mut [Name]) -> Result<usize, Refusal>
+    ensures answer { λ r. ⌜ r ≡ answerOf (readingFor (now (orders .entry)) (now (names .entry)) (now (script .entry))) ⌝ }
+    ensures orders { λ _. ⌜ now (orders .exit) ≡ padded (length (now (orders .entry))) blankOrder (ordersLeft (readingFor (now (orders .entry)) (now (names .entry)) (now (script .entry)))) ⌝ }
+    ensures names { λ _. ⌜ now (names .exit) ≡ padded (length (now (names .entry))) blankName (namesLeft (readingFor (now (orders .entry)) (now (names .entry)) (now (script .entry)))) ⌝ }
+{
+    read_over(script, orders, names)
 }
