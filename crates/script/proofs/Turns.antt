@@ -19,7 +19,7 @@ use Rattle.script.specs.declared.command.Keyword.the-variants.{CheckSat, Decla
 use Rattle.script.specs.declared.command.Declaration.{Declaration}
 use Rattle.script.specs.Tokens.{Lexing}
 use Rattle.script.specs.Steps.{isOpen, isClose, isEnd, keywordIn, accept, pick, andThen}
-use Rattle.script.specs.Reading.{Read, declared, full, declarationAt, finishAt, commandBy, commandAt, commandsAt, orderRoom, nameRoom, nothingRead, padded, blankOrder, blankName, answerOf}
+use Rattle.script.specs.Reading.{Read, declared, full, declarationAt, commandBy, commandAt, commandsAt, orderRoom, nameRoom, nothingRead, padded, blankOrder, blankName, answerOf}
 use Rattle.script.specs.Filled.{Filled}
 
 -- two steps and then an answer
@@ -64,9 +64,6 @@ module _ (lex : ℕ → Lexing) (text : ℕ → ℕ → List ℕ) (room more : �
 
 -- with k orders of n
 module _ (lex : ℕ → Lexing) (text : ℕ → ℕ → List ℕ) (room : ℕ) (read : Read) (pos n k place : ℕ) (d : Declaration) where
-  pub no-room : n ≤ k → afterwards lex text room (n - k) read pos (n - k) place d ≡ Err (full (d .close .place))
-  no-room h = let e : n - k ≡ 0 = omega arith in rw e refl
-
   pub goes-on : k < n → afterwards lex text room (n - k) read pos (n - k) place d ≡ commandsAt lex text room (n - (k + 1)) (declared read place d) (d .close .after)
   goes-on h = let e : n - k ≡ suc (n - (k + 1)) = omega arith in rw e refl
 

@@ -1,13 +1,12 @@
 use borrow.Author.Needs.{needs}
 use native.Mathlib.Omega.{arith}
-use mathlib.Core.Path.{_≡_, refl, sym, ap, _∙_}
+use mathlib.Core.Path.{sym, ap, _∙_}
 use Prim.Native.Nat.{_+_, _-_, _<_}
 use lib.ListN.{length, length-set, length-take}
-use Rattle.std.specs.declared.result.Result.the-variants.{Ok, Err}
 use Rattle.script.specs.Tokens.{tokenAt}
 use Rattle.script.specs.Reading.{commandsAt, textIn, blankOrder, blankName}
 use Rattle.script.specs.Filled.{commandsFor}
-use Rattle.script.proofs.Turns.{readIn, orderOf, nameOf, starts, no-open, no-word, no-finish, finished, no-register, registered, no-room, goes-on, entered, still-blank, left-at, refuses}
+use Rattle.script.proofs.Turns.{readIn, starts, no-open, no-word, no-finish, finished, no-register, registered, goes-on, entered, still-blank, left-at, refuses}
 use Rattle.script.proofs.read.commands.Needs as need
 
 pub loop-first-holds : need.loop-first-holds
