@@ -5,3 +5,5 @@ pub mod Steps
 pub mod Reading
 pub mod Grammar
 pub mod Law
+pub mod Found
+pub mod Filled

@@ -2,3 +2,10 @@
 pub mod token;
 pub mod names;
 pub mod command;
+mod bytes;
+pub mod numeral;
+pub mod lexer;
+pub mod words;
+mod steps;
+mod declaration;
+pub mod read;
