@@ -1,0 +1,6 @@
+pub mod GrammarSteps
+pub mod GrammarAfter
+pub mod GrammarFaithful
+pub mod GrammarComplete
+pub mod GrammarSound
+pub mod LawProof
