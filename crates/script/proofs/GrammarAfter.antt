@@ -1,14 +1,11 @@
 -- The orders and names of registers that are read one after another.
-use mathlib.Core.Path.{_≡_, refl, sym, ap, subst, _∙_}
+use mathlib.Core.Path.{_≡_, refl, sym, ap, _∙_}
 use mathlib.Core.List.{List, [], _∷_, _++_}
-use Prim.Native.Nat.{ℕ, suc, _+_, _<_}
+use Prim.Native.Nat.{ℕ, suc, _+_}
 use native.Mathlib.Omega.{arith}
 use lib.ListN.{length, drop, getD}
-use Rattle.std.proofs.shelf.Lists.{append-nil, append-assoc, map-append, length-append, length-push, drop-at, getD-append-left}
-use Rattle.source.specs.declared.order.Act as acts
-use Rattle.source.specs.declared.order.Order.{Order}
+use Rattle.std.proofs.shelf.Lists.{append-nil, append-assoc, map-append, length-push, drop-at, getD-append-left}
 use Rattle.script.specs.declared.token.Span.{Span}
-use Rattle.script.specs.declared.names.Name.{Name}
 use Rattle.script.specs.declared.command.Declaration.{Declaration}
 use Rattle.script.specs.Tokens.{Lexing, valueOf}
 use Rattle.script.specs.Reading.{Read, declared, texts}
@@ -22,16 +19,17 @@ same-read x y p q =
 -- what is read once registers at these spans have been read too
 abbrev pub after : Read → Script → List Span → Read
 after read rs spans = record {
-    orders = read .orders ++ ordersOf rs spans;
-    names = read .names ++ namesOf (length (read .orders)) rs spans }
+  orders = read .orders ++ ordersOf rs spans;
+  names = read .names ++ namesOf (length (read .orders)) rs spans;
+}
 
 pub after-none : (read : Read) (spans : List Span) → after read [] spans ≡ read
 after-none read spans = same-read (after read [] spans) read (append-nil (read .orders)) (append-nil (read .names))
 
 -- a declaration read as the register r at the spans `front`
 pub after-declared : (read : Read) (d : Declaration) (r : Register) (rs : Script) (front back : List Span)
-  → length front ≡ length (registerTokens r) → d .name ≡ getD front 2 noSpan → d .width ≡ valueOf (r .width)
-  → after (declared read (getD front 0 noSpan .place) d) rs back ≡ after read (r ∷ rs) (front ++ back)
+    → length front ≡ length (registerTokens r) → d .name ≡ getD front 2 noSpan → d .width ≡ valueOf (r .width)
+    → after (declared read (getD front 0 noSpan .place) d) rs back ≡ after read (r ∷ rs) (front ++ back)
 after-declared read d r rs front back l n w =
     let rest : drop (length (registerTokens r)) (front ++ back) ≡ back = drop-at front back (length (registerTokens r)) l in
     let first : getD (front ++ back) 0 noSpan ≡ getD front 0 noSpan = getD-append-left front back noSpan 0 (omega arith) in
@@ -43,8 +41,8 @@ after-declared read d r rs front back l n w =
 
 -- the names taken then
 pub texts-declared : (lex : ℕ → Lexing) (text : ℕ → ℕ → List ℕ) (read : Read) (place : ℕ) (d : Declaration) (title : List ℕ)
-  → text (d .name .place) (d .name .after) ≡ title
-  → texts lex text (declared read place d .names) ≡ texts lex text (read .names) ++ (title ∷ [])
+    → text (d .name .place) (d .name .after) ≡ title
+    → texts lex text (declared read place d .names) ≡ texts lex text (read .names) ++ (title ∷ [])
 texts-declared lex text read place d title e =
     map-append _ (read .names) _ ∙ ap (λ t. texts lex text (read .names) ++ (t ∷ [])) e
 

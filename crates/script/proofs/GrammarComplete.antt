@@ -1,6 +1,6 @@
 -- Every script of the grammar within the limits is read, and gives its orders and names.
 use mathlib.Core.Path.{_≡_, refl, sym, ap, subst, _∙_}
-use mathlib.Core.Bool.{Bool, true, false, cond, _||_}
+use mathlib.Core.Bool.{Bool, false, cond, _||_}
 use mathlib.Core.List.{List, [], _∷_, _++_}
 use Prim.Native.Nat.{ℕ, zero, suc, _+_, _-_, _<_, _≤_}
 use native.Mathlib.Omega.{arith}
@@ -12,19 +12,16 @@ use Rattle.std.specs.declared.result.Result.the-variants.{Ok, Err}
 use Rattle.std.proofs.shelf.Lists.{length-map, length-push, append-assoc, drop-at}
 use Rattle.std.proofs.shelf.Tests.{lt-leb}
 use Rattle.refusal.specs.declared.Refusal.{Refusal}
-use Rattle.source.specs.declared.order.Act as acts
-use Rattle.source.specs.declared.order.Order.{Order}
 use Rattle.script.specs.declared.token.Span.{Span}
-use Rattle.script.specs.declared.names.Name.{Name}
 use Rattle.script.specs.declared.command.Form.{Form}
 use Rattle.script.specs.declared.command.Form.the-variants.{Constant, Function}
 use Rattle.script.specs.declared.command.Keyword.the-variants.{CheckSat, Declare}
 use Rattle.script.specs.declared.command.Declaration.{Declaration}
-use Rattle.script.specs.Tokens.{Tok, open-paren, close-paren, name, numeral, end, Lexing, found, valueOf}
+use Rattle.script.specs.Tokens.{Tok, close-paren, name, Lexing, found, valueOf}
 use Rattle.script.specs.Words.{reservedWords, among}
-use Rattle.script.specs.Steps.{isOpen, isClose, isEnd, isName, isWord, numberIn, keywordIn, accept, pick, andThen}
-use Rattle.script.specs.Reading.{Read, nothingRead, declared, takeName, texts, prologueAt, sortAt, parametersAt, declarationAt, finishAt, commandBy, commandAt, commandsAt, scriptAt}
-use Rattle.script.specs.Grammar.{Register, Script, formWord, parameterTokens, sortTokens, registerTokens, registersTokens, prologueTokens, epilogueTokens, scriptTokens, Spells, Free, noSpan, ordersOf, namesOf}
+use Rattle.script.specs.Steps.{isOpen, isClose, isEnd, isName, isWord, numberIn, keywordIn}
+use Rattle.script.specs.Reading.{Read, nothingRead, declared, texts, prologueAt, sortAt, parametersAt, commandAt, commandsAt, scriptAt}
+use Rattle.script.specs.Grammar.{Register, Script, parameterTokens, sortTokens, registerTokens, registersTokens, prologueTokens, epilogueTokens, scriptTokens, Spells, Free, noSpan, ordersOf, namesOf}
 use Rattle.script.proofs.GrammarSteps.{Faithful, Along, along, along-length, cut, keyword-known, goes, steps, picks}
 use Rattle.script.proofs.GrammarAfter.{after, after-none, after-declared, texts-declared}
 
@@ -70,10 +67,10 @@ module _ (lex : ℕ → Lexing) (text : ℕ → ℕ → List ℕ) where
     pub named : (pos : ℕ) × (lex pos ≡ found (name (r .title)) (declaration .name .place) (declaration .name .after))
 
   declares : (faithful : Faithful lex text)
-    (room : ℕ) (next : ℕ → Declaration → Result Read Refusal) (read : Read) (r : Register) (spans : List Span) (pos stop : ℕ)
-    → Along lex pos (registerTokens r) spans stop
-    → among reservedWords (r .title) ≡ false → among (texts lex text (read .names)) (r .title) ≡ false → length (read .names) < room
-    → Declares room next read r spans pos stop
+      (room : ℕ) (next : ℕ → Declaration → Result Read Refusal) (read : Read) (r : Register) (spans : List Span) (pos stop : ℕ)
+      → Along lex pos (registerTokens r) spans stop
+      → among reservedWords (r .title) ≡ false → among (texts lex text (read .names)) (r .title) ≡ false → length (read .names) < room
+      → Declares room next read r spans pos stop
   declares faithful room next read r spans pos stop a reserved taken small =
       let b = a .4 in let n = b .4 in
       let c = cut lex (parameterTokens (r .form)) (sortTokens (r .width) ++ (close-paren ∷ [])) (n .1) (n .0 .after) stop (n .4) in
@@ -87,22 +84,23 @@ module _ (lex : ℕ → Lexing) (text : ℕ → ℕ → List ℕ) where
       record {
         declaration = out;
         reads =
-          steps isOpen (lex pos) _ _ (a .0) _ (a .3) refl
-          (picks keywordIn (lex (a .0 .after)) _ _ (b .0) (Declare (r .form)) _ (b .3) (keyword-known (Declare (r .form)))
-          (goes _ (next (a .0 .place)) out _
+            steps isOpen (lex pos) _ _ (a .0) _ (a .3) refl
+            (picks keywordIn (lex (a .0 .after)) _ _ (b .0) (Declare (r .form)) _ (b .3) (keyword-known (Declare (r .form)))
+            (goes _ (next (a .0 .place)) out _
             (steps isName (lex (b .0 .after)) _ _ (n .0) _ (n .3) refl
             (goes _ _ (n .0) _ (granted _ _ _ _ _ (n .0) (ap (among reservedWords) t ∙ reserved) (ap (among (texts lex text (read .names))) t ∙ taken) full)
             (goes _ _ (c .mid) _ (parameters-read (r .form) (c .front) (n .0 .after) (c .mid) (c .before))
             (goes _ _ (valueOf (r .width), d .mid) _ (sort-read (r .width) (d .front) (c .mid) (d .mid) (d .before))
             (steps isClose (lex (d .mid)) _ _ (e .0) _ (e .3) refl refl)))))
-          (ap (λ x. next (getD x 0 noSpan .place) out) (sym all))));
+            (ap (λ x. next (getD x 0 noSpan .place) out) (sym all))));
         name-is = ap (λ x. getD x 2 noSpan) (sym all);
         width-is = refl;
         stop-is = e .4 .1;
-        named = (b .0 .after, n .3) }
+        named = (b .0 .after, n .3);
+      }
 
   finish-read : (room : ℕ) (next : ℕ → Declaration → Result Read Refusal) (read : Read) (spans : List Span) (pos stop : ℕ)
-    → Along lex pos epilogueTokens spans stop → commandAt lex text room next read pos ≡ Ok read
+      → Along lex pos epilogueTokens spans stop → commandAt lex text room next read pos ≡ Ok read
   finish-read room next read spans pos stop a =
       let b = a .4 in let c = b .4 in let d = c .4 in
       steps isOpen (lex pos) _ _ (a .0) _ (a .3) refl
@@ -113,15 +111,15 @@ module _ (lex : ℕ → Lexing) (text : ℕ → ℕ → List ℕ) where
   module _ (faithful : Faithful lex text) (room : ℕ) where
     -- the registers and the end, after what has been read
     commands-read : (rs : Script) (more : ℕ) (read : Read) (spans : List Span) (pos stop : ℕ) → Along lex pos (registersTokens rs ++ epilogueTokens) spans stop
-      → Free (texts lex text (read .names)) rs → length rs ≤ more → length rs ≤ room - length (read .names)
-      → commandsAt lex text room more read pos ≡ Ok (after read rs spans)
+        → Free (texts lex text (read .names)) rs → length rs ≤ more → length rs ≤ room - length (read .names)
+        → commandsAt lex text room more read pos ≡ Ok (after read rs spans)
     commands-read [] zero read spans pos stop a f o n = finish-read room _ read spans pos stop a ∙ ap Ok (sym (after-none read spans))
     commands-read [] (suc more) read spans pos stop a f o n = finish-read room _ read spans pos stop a ∙ ap Ok (sym (after-none read spans))
     commands-read (r ∷ rs) zero read spans pos stop a f o n = absurd (omega arith)
     commands-read (r ∷ rs) (suc more) read spans pos stop a f o n =
         let P : List Tok → Type 0 = λ ts. Along lex pos ts spans stop in
         let c = cut lex (registerTokens r) (registersTokens rs ++ epilogueTokens) spans pos stop
-              (subst P (append-assoc (registerTokens r) (registersTokens rs) epilogueTokens) a) in
+        (subst P (append-assoc (registerTokens r) (registersTokens rs) epilogueTokens) a) in
         let next : ℕ → Declaration → Result Read Refusal = λ place d. commandsAt lex text room more (declared read place d) (d .close .after) in
         let s = declares faithful room next read r (c .front) pos (c .mid) (c .before) (f .0) (f .1) (omega arith) in
         let d = s .declaration in
@@ -132,13 +130,13 @@ module _ (lex : ℕ → Lexing) (text : ℕ → ℕ → List ℕ) where
         let count : length (then .names) ≡ length (read .names) + 1 = length-push (read .names) _ in
         s .reads
         ∙ (commands-read rs more then (c .back) (d .close .after) stop (subst R (sym (s .stop-is)) (c .behind))
-          (subst Q (sym (texts-declared lex text read 0 d (r .title) title)) (f .2)) (omega arith) (omega arith)
+        (subst Q (sym (texts-declared lex text read 0 d (r .title) title)) (f .2)) (omega arith) (omega arith)
         ∙ ap Ok (after-declared read d r rs (c .front) (c .back) (along-length lex (registerTokens r) (c .front) pos (c .mid) (c .before)) (s .name-is) (s .width-is)
-          ∙ ap (after read (r ∷ rs)) (sym (c .whole))))
+        ∙ ap (after read (r ∷ rs)) (sym (c .whole))))
 
     pub script-read : (orders : ℕ) (script : Script) (spans : List Span) (stop : ℕ) → Spells lex 0 (scriptTokens script) spans stop → Free [] script
-      → length script ≤ orders → length script ≤ room
-      → scriptAt lex text orders room 0 ≡ Ok (record { orders = ordersOf script (drop 4 spans); names = namesOf 0 script (drop 4 spans) })
+        → length script ≤ orders → length script ≤ room
+        → scriptAt lex text orders room 0 ≡ Ok (record { orders = ordersOf script (drop 4 spans); names = namesOf 0 script (drop 4 spans) })
     script-read orders script spans stop h f o n =
         let c = cut lex prologueTokens (registersTokens script ++ epilogueTokens) spans 0 stop (along lex (scriptTokens script) spans 0 stop h) in
         let rest : drop 4 spans ≡ c .back = ap (drop 4) (c .whole) ∙ drop-at (c .front) (c .back) 4 (along-length lex prologueTokens (c .front) 0 (c .mid) (c .before)) in

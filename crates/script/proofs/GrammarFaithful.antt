@@ -1,6 +1,6 @@
 -- The text between the two places of a name is that name.
-use mathlib.Core.Path.{_≡_, refl, sym, ap, subst, _∙_}
-use mathlib.Core.Bool.{Bool, false, cond}
+use mathlib.Core.Path.{_≡_, refl, ap, subst, _∙_}
+use mathlib.Core.Bool.{false}
 use mathlib.Core.List.{List, [], _∷_}
 use Prim.Native.Nat.{ℕ, _+_, _-_}
 use native.Mathlib.Omega.{arith}
@@ -12,7 +12,7 @@ use Rattle.std.proofs.shelf.Sums.{leading-le-length}
 use Rattle.std.proofs.shelf.Tests.{cond-both}
 use Rattle.script.specs.declared.token.Class.the-variants.{Atom, Bit, HexDigit}
 use Rattle.script.specs.Bytes.{digit, atomic, within, skipped}
-use Rattle.script.specs.Tokens.{Tok, open-paren, close-paren, name, numeral, binary, hex, end, Lexing, found, refused, isNumeral, isConstant, atomToken, atomOf, tokenHere, tokenAt}
+use Rattle.script.specs.Tokens.{open-paren, close-paren, name, numeral, binary, hex, end, Lexing, found, refused, isNumeral, isConstant, atomToken, atomOf, tokenHere, tokenAt}
 use Rattle.script.specs.Reading.{textIn}
 use Rattle.script.proofs.GrammarSteps.{Faithful}
 
@@ -38,8 +38,8 @@ atom-stands b xs q =
     let P : Lexing → Type 0 = λ l. Stands xs q l in
     cond-both (digit b) _ _ P (λ _. cond-both (isNumeral (atomOf xs)) _ _ P (λ _. tt) (λ _. tt))
     (λ _. cond-both (eqb b 35) _ _ P
-      (λ _. cond-both (isConstant 98 Bit (atomOf xs)) _ _ P (λ _. tt) (λ _. cond-both (isConstant 120 HexDigit (atomOf xs)) _ _ P (λ _. tt) (λ _. tt)))
-      (λ _. (refl, atom-again xs q)))
+    (λ _. cond-both (isConstant 98 Bit (atomOf xs)) _ _ P (λ _. tt) (λ _. cond-both (isConstant 120 HexDigit (atomOf xs)) _ _ P (λ _. tt) (λ _. tt)))
+    (λ _. (refl, atom-again xs q)))
 
 here-stands : (xs : List ℕ) (q : ℕ) → Stands xs q (tokenHere xs q)
 here-stands [] q = tt

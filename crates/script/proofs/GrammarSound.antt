@@ -23,14 +23,14 @@ use Rattle.script.specs.declared.command.Declaration.{Declaration}
 use Rattle.script.specs.Tokens.{Tok, open-paren, close-paren, name, numeral, end, Lexing, found, valueOf}
 use Rattle.script.specs.Words.{reservedWords, among}
 use Rattle.script.specs.Steps.{isOpen, isClose, isEnd, isName, isWord, numberIn, keywordIn, andThen}
-use Rattle.script.specs.Reading.{Read, nothingRead, declared, full, takeName, texts, prologueAt, sortAt, parametersAt, declarationAt, commandBy, commandAt, commandsAt, scriptAt}
+use Rattle.script.specs.Reading.{Read, nothingRead, declared, full, texts, prologueAt, sortAt, parametersAt, declarationAt, commandBy, commandAt, commandsAt, scriptAt}
 use Rattle.script.specs.Grammar.{Register, Script, parameterTokens, sortTokens, registerTokens, registersTokens, prologueTokens, epilogueTokens, scriptTokens, Spells, Free, noSpan, ordersOf, namesOf}
 use Rattle.script.proofs.GrammarSteps.{Faithful, spells-join, spells-length, only-open, only-close, only-end, only-numeral, only-text, only-word, keywordWord, only-keyword, never, ok-same, then-inv, accept-inv, found-as, step-inv, pick-inv}
 use Rattle.script.proofs.GrammarAfter.{after, after-none, after-declared, texts-declared}
 
 -- the three tests of a name were passed
 tests-inv : {B : Type 0} (a b c : Bool) (e f : Refusal) (s : Span) (go : Span → Result B Refusal) (y : B)
-  → andThen (cond (a || b) (Err e) (cond c (Err f) (Ok s))) go ≡ Ok y → (a ≡ false) × (b ≡ false) × (c ≡ false) × (go s ≡ Ok y)
+    → andThen (cond (a || b) (Err e) (cond c (Err f) (Ok s))) go ≡ Ok y → (a ≡ false) × (b ≡ false) × (c ≡ false) × (go s ≡ Ok y)
 tests-inv true b c e f s go y q = absurd (never e y q)
 tests-inv false true c e f s go y q = absurd (never e y q)
 tests-inv false false true e f s go y q = absurd (never f y q)
@@ -60,7 +60,7 @@ module _ (lex : ℕ → Lexing) (text : ℕ → ℕ → List ℕ) where
       (a .0 ∷ b .0 ∷ c .0 ∷ d .0 ∷ [], (a .1, (b .1, (c .1, (d .1, ok-same (d .0 .after) stop (d .2))))))
 
   sort-sound : (pos : ℕ) (k : ℕ × ℕ) → sortAt lex text pos ≡ Ok k
-    → (width : List ℕ) × (spans : List Span) × Spells lex pos (sortTokens width) spans (k .1) × (k .0 ≡ valueOf width)
+      → (width : List ℕ) × (spans : List Span) × Spells lex pos (sortTokens width) spans (k .1) × (k .0 ≡ valueOf width)
   sort-sound pos k e =
       let a = step-inv isOpen open-paren only-open (lex pos) _ k e in
       let b = step-inv (isWord (codes "_")) (name (codes "_")) (only-word (codes "_")) (lex (a .0 .after)) _ k (a .2) in
@@ -96,7 +96,7 @@ module _ (lex : ℕ → Lexing) (text : ℕ → ℕ → List ℕ) where
       omega (arith, leb-false room (length (texts lex text names)) e)
 
   declaration-sound : (room : ℕ) (form : Form) (names : List Name) (pos : ℕ) (d : Declaration) → declarationAt lex text room form names pos ≡ Ok d
-    → Declares room form names pos d
+      → Declares room form names pos d
   declaration-sound room form names pos d e =
       let s = accept-inv isName (lex pos) _ d e in
       let u = only-text (λ x. true) (s .1) (s .3) in
@@ -108,11 +108,19 @@ module _ (lex : ℕ → Lexing) (text : ℕ → ℕ → List ℕ) where
       let ks = sort-sound (p .0) (k .0) (k .1) in
       let P : Declaration → Type 0 = λ d. Declares room form names pos d in
       subst P (ok-same (record { name = s .0; width = k .0 .0; close = c .0 }) d (c .2)) (record {
-        title = u .0; width = ks .0; others = ps .0 ++ (ks .1 ++ (c .0 ∷ []));
-        tokens = (found-as (lex pos) (s .1) (name (u .0)) (s .0) (s .2) (u .1),
+        title = u .0;
+        width = ks .0;
+        others = ps .0 ++ (ks .1 ++ (c .0 ∷ []));
+        tokens = (
+          found-as (lex pos) (s .1) (name (u .0)) (s .0) (s .2) (u .1),
           spells-join lex (parameterTokens form) (sortTokens (ks .0) ++ (close-paren ∷ [])) (ps .0) (ks .1 ++ (c .0 ∷ [])) (s .0 .after) (p .0) (c .0 .after) (ps .1)
-          (spells-join lex (sortTokens (ks .0)) (close-paren ∷ []) (ks .1) (c .0 ∷ []) (p .0) (k .0 .1) (c .0 .after) (ks .2) (c .1, refl)));
-        reserved = t .0; taken = t .1; small = room-left room names (t .2); width-is = ks .3 })
+              (spells-join lex (sortTokens (ks .0)) (close-paren ∷ []) (ks .1) (c .0 ∷ []) (p .0) (k .0 .1) (c .0 .after) (ks .2) (c .1, refl)),
+        );
+        reserved = t .0;
+        taken = t .1;
+        small = room-left room names (t .2);
+        width-is = ks .3;
+      })
 
   -- a command that declares a register, after which `next` came to x
   record Registers (room : ℕ) (next : ℕ → Declaration → Result Read Refusal) (read : Read) (pos : ℕ) (x : Read) : Type 0 where
@@ -136,14 +144,14 @@ module _ (lex : ℕ → Lexing) (text : ℕ → ℕ → List ℕ) where
     read-is : x ≡ read
 
   command-sound : (room : ℕ) (next : ℕ → Declaration → Result Read Refusal) (read : Read) (pos : ℕ) (x : Read) → commandAt lex text room next read pos ≡ Ok x
-    → Finishes read pos x ⊎ Registers room next read pos x
+      → Finishes read pos x ⊎ Registers room next read pos x
   command-sound room next read pos x e =
       let o = step-inv isOpen open-paren only-open (lex pos) _ x e in
       let k = pick-inv keywordIn (lex (o .0 .after)) _ x (o .2) in
       by (o .0) (k .0) (k .2) (o .1) (found-as (lex (o .0 .after)) (k .1) (name (keywordWord (k .2))) (k .0) (k .3) (only-keyword (k .1) (k .2) (k .4))) (k .5)
     where
       by : (o w : Span) (k : Keyword) → lex pos ≡ found open-paren (o .place) (o .after) → lex (o .after) ≡ found (name (keywordWord k)) (w .place) (w .after)
-        → commandBy lex text room next read (o .place) k (w .after) ≡ Ok x → Finishes read pos x ⊎ Registers room next read pos x
+          → commandBy lex text room next read (o .place) k (w .after) ≡ Ok x → Finishes read pos x ⊎ Registers room next read pos x
       by o w CheckSat h i e =
           let c = step-inv isClose close-paren only-close (lex (w .after)) _ x e in
           let d = step-inv isEnd end only-end (lex (c .0 .after)) _ x (c .2) in
@@ -152,9 +160,18 @@ module _ (lex : ℕ → Lexing) (text : ℕ → ℕ → List ℕ) where
           let a = then-inv (declarationAt lex text room form (read .names) (w .after)) (next (o .place)) x e in
           let d = declaration-sound room form (read .names) (w .after) (a .0) (a .1) in
           inr (record {
-            register = record { form = form; title = d .title; width = d .width }; declaration = a .0; spans = o ∷ w ∷ a .0 .name ∷ d .others;
-            tokens = (h, (i, d .tokens)); reserved = d .reserved; taken = d .taken; small = d .small; named = (w .after, d .tokens .0);
-            name-is = refl; width-is = d .width-is; goes-on = a .2 })
+            register = record { form = form; title = d .title; width = d .width };
+            declaration = a .0;
+            spans = o ∷ w ∷ a .0 .name ∷ d .others;
+            tokens = (h, (i, d .tokens));
+            reserved = d .reserved;
+            taken = d .taken;
+            small = d .small;
+            named = (w .after, d .tokens .0);
+            name-is = refl;
+            width-is = d .width-is;
+            goes-on = a .2;
+          })
 
   module _ (faithful : Faithful lex text) (room : ℕ) where
     -- registers and the end, read after `read`
@@ -170,12 +187,19 @@ module _ (lex : ℕ → Lexing) (text : ℕ → ℕ → List ℕ) where
 
     finished : (more : ℕ) (read : Read) (pos : ℕ) (x : Read) → Finishes read pos x → Commands more read pos x
     finished more read pos x f = record {
-        script = []; spans = f .spans; stop = f .stop; tokens = f .tokens; free = tt; few-orders = omega arith; few-names = omega arith;
-        read-is = f .read-is ∙ sym (after-none read (f .spans)) }
+      script = [];
+      spans = f .spans;
+      stop = f .stop;
+      tokens = f .tokens;
+      free = tt;
+      few-orders = omega arith;
+      few-names = omega arith;
+      read-is = f .read-is ∙ sym (after-none read (f .spans));
+    }
 
     -- one register more in front
     registered : (more : ℕ) (next : ℕ → Declaration → Result Read Refusal) (read : Read) (pos : ℕ) (x : Read) (w : Registers room next read pos x)
-      → Commands more (declared read (getD (w .spans) 0 noSpan .place) (w .declaration)) (w .declaration .close .after) x → Commands (suc more) read pos x
+        → Commands more (declared read (getD (w .spans) 0 noSpan .place) (w .declaration)) (w .declaration .close .after) x → Commands (suc more) read pos x
     registered more next read pos x w c =
         let r = w .register in
         let d = w .declaration in
@@ -188,13 +212,20 @@ module _ (lex : ℕ → Lexing) (text : ℕ → ℕ → List ℕ) where
         let less : length (c .script) ≤ more = c .few-orders in
         let left : length (read .names) < room = w .small in
         record {
-          script = r ∷ c .script; spans = w .spans ++ c .spans; stop = c .stop;
+          script = r ∷ c .script;
+          spans = w .spans ++ c .spans;
+          stop = c .stop;
           tokens = subst P (sym (append-assoc (registerTokens r) (registersTokens (c .script)) epilogueTokens))
-            (spells-join lex (registerTokens r) (registersTokens (c .script) ++ epilogueTokens) (w .spans) (c .spans) pos (d .close .after) (c .stop) (w .tokens) (c .tokens));
-          free = (ap (among reservedWords) (sym title) ∙ w .reserved, ap (among (texts lex text (read .names))) (sym title) ∙ w .taken,
-            subst Q (texts-declared lex text read 0 d (r .title) title) (c .free));
-          few-orders = omega arith; few-names = omega arith;
-          read-is = c .read-is ∙ after-declared read d r (c .script) (w .spans) (c .spans) (spells-length lex (registerTokens r) (w .spans) pos (d .close .after) (w .tokens)) (w .name-is) (w .width-is) }
+              (spells-join lex (registerTokens r) (registersTokens (c .script) ++ epilogueTokens) (w .spans) (c .spans) pos (d .close .after) (c .stop) (w .tokens) (c .tokens));
+          free = (
+            ap (among reservedWords) (sym title) ∙ w .reserved,
+            ap (among (texts lex text (read .names))) (sym title) ∙ w .taken,
+            subst Q (texts-declared lex text read 0 d (r .title) title) (c .free),
+          );
+          few-orders = omega arith;
+          few-names = omega arith;
+          read-is = c .read-is ∙ after-declared read d r (c .script) (w .spans) (c .spans) (spells-length lex (registerTokens r) (w .spans) pos (d .close .after) (w .tokens)) (w .name-is) (w .width-is);
+        }
 
     commands-sound : (more : ℕ) (read : Read) (pos : ℕ) (x : Read) → commandsAt lex text room more read pos ≡ Ok x → Commands more read pos x
     commands-sound zero read pos x e =
@@ -213,7 +244,12 @@ module _ (lex : ℕ → Lexing) (text : ℕ → ℕ → List ℕ) where
         let c = commands-sound orders nothingRead (p .0) x (p .2) in
         let rest : drop 4 (s .0 ++ c .spans) ≡ c .spans = drop-at (s .0) (c .spans) 4 (spells-length lex prologueTokens (s .0) 0 (p .0) (s .1)) in
         record {
-          script = c .script; spans = s .0 ++ c .spans; stop = c .stop;
+          script = c .script;
+          spans = s .0 ++ c .spans;
+          stop = c .stop;
           tokens = spells-join lex prologueTokens (registersTokens (c .script) ++ epilogueTokens) (s .0) (c .spans) 0 (p .0) (c .stop) (s .1) (c .tokens);
-          free = c .free; few-orders = c .few-orders; few-names = omega (arith, c .few-names);
-          read-is = c .read-is ∙ ap (after nothingRead (c .script)) (sym rest) }
+          free = c .free;
+          few-orders = c .few-orders;
+          few-names = omega (arith, c .few-names);
+          read-is = c .read-is ∙ ap (after nothingRead (c .script)) (sym rest);
+        }

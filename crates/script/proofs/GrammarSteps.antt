@@ -1,8 +1,7 @@
 -- Spellings cut and joined, and what each step of the reader wants and gives.
 use mathlib.Core.Path.{_≡_, refl, sym, ap, subst, _∙_}
-use mathlib.Core.Bool.{Bool, true, false, cond, _||_}
+use mathlib.Core.Bool.{Bool, true, false, cond}
 use mathlib.Core.List.{List, [], _∷_, _++_}
-use mathlib.Core.Logic.{⊎-elim}
 use Prim.Native.Nat.{ℕ, suc}
 use native.Mathlib.Omega.{arith}
 use lib.Chars.{codes}
@@ -13,14 +12,13 @@ use Rattle.std.specs.declared.option.Option.the-variants.{Some, None}
 use Rattle.std.specs.declared.result.Result.{Result}
 use Rattle.std.specs.declared.result.Result.the-variants.{Ok, Err}
 use Rattle.std.proofs.shelf.Equals.{sameBytes-decides}
-use Rattle.std.proofs.shelf.Tests.{cases-bool, cond-true, cond-false}
 use Rattle.refusal.specs.declared.Refusal.{Refusal}
 use Rattle.script.specs.declared.token.Span.{Span}
 use Rattle.script.specs.declared.command.Form.the-variants.{Constant, Function}
 use Rattle.script.specs.declared.command.Keyword.{Keyword}
 use Rattle.script.specs.declared.command.Keyword.the-variants.{CheckSat, Declare}
 use Rattle.script.specs.Tokens.{Tok, open-paren, close-paren, name, numeral, binary, hex, end, Lexing, found, refused, offGrammar, valueOf}
-use Rattle.script.specs.Steps.{isOpen, isClose, isEnd, nameIn, numberIn, textIs, isName, isWord, accept, given, pick, keywordOf, keywordFrom, keywordIn, andThen}
+use Rattle.script.specs.Steps.{isOpen, isClose, isEnd, nameIn, numberIn, textIs, isWord, accept, given, pick, keywordOf, keywordFrom, keywordIn, andThen}
 use Rattle.script.specs.Grammar.{formWord, Spells}
 
 -- the text between the two places of a name is that name
@@ -29,7 +27,7 @@ Faithful lex text = (pos : ℕ) (t : List ℕ) (p a : ℕ) → lex pos ≡ found
 
 module _ (lex : ℕ → Lexing) where
   pub spells-join : (xs ys : List Tok) (ps qs : List Span) (pos mid stop : ℕ) → Spells lex pos xs ps mid → Spells lex mid ys qs stop
-    → Spells lex pos (xs ++ ys) (ps ++ qs) stop
+      → Spells lex pos (xs ++ ys) (ps ++ qs) stop
   spells-join [] ys [] qs pos mid stop e s = let P : ℕ → Type 0 = λ k. Spells lex k ys qs stop in subst P (sym e) s
   spells-join [] ys (p ∷ ps) qs pos mid stop h s = absurd h
   spells-join (x ∷ xs) ys [] qs pos mid stop h s = absurd h
@@ -143,7 +141,7 @@ keywordWord (Declare form) = formWord form
 
 -- one test of a chain that looks a word up
 looked : (u : List ℕ) (this k : Keyword) (rest : Option Keyword) → (rest ≡ Some k → u ≡ keywordWord k)
-  → cond (sameBytes u (keywordWord this)) (Some this) rest ≡ Some k → u ≡ keywordWord k
+    → cond (sameBytes u (keywordWord this)) (Some this) rest ≡ Some k → u ≡ keywordWord k
 looked u this k rest other e = by (sameBytes u (keywordWord this)) refl e
   where
     by : (b : Bool) → sameBytes u (keywordWord this) ≡ b → cond b (Some this) rest ≡ Some k → u ≡ keywordWord k
@@ -179,12 +177,12 @@ then-inv (Ok x) go y e = (x, refl, e)
 then-inv (Err f) go y e = absurd (never f y e)
 
 pub accept-inv : {B : Type 0} (wanted : Tok → Bool) (l : Lexing) (go : Span → Result B Refusal) (y : B) → andThen (accept wanted l) go ≡ Ok y
-  → (s : Span) × (t : Tok) × (l ≡ found t (s .place) (s .after)) × (wanted t ≡ true) × (go s ≡ Ok y)
+    → (s : Span) × (t : Tok) × (l ≡ found t (s .place) (s .after)) × (wanted t ≡ true) × (go s ≡ Ok y)
 accept-inv wanted (refused f) go y e = absurd (never f y e)
 accept-inv {B} wanted (found t p a) go y e = by (wanted t) refl e
   where
     by : (b : Bool) → wanted t ≡ b → andThen (cond b (Ok (record { place = p; after = a })) (Err (offGrammar p))) go ≡ Ok y
-      → (s : Span) × (u : Tok) × (found t p a ≡ found u (s .place) (s .after)) × (wanted u ≡ true) × (go s ≡ Ok y)
+        → (s : Span) × (u : Tok) × (found t p a ≡ found u (s .place) (s .after)) × (wanted u ≡ true) × (go s ≡ Ok y)
     by true w e = (record { place = p; after = a }, t, refl, w, e)
     by false w e = absurd (never _ y e)
 
@@ -193,18 +191,18 @@ found-as l t u s e same = e ∙ ap (λ x. found x (s .place) (s .after)) same
 
 -- where only one token passes
 pub step-inv : {B : Type 0} (wanted : Tok → Bool) (t : Tok) → ((u : Tok) → wanted u ≡ true → u ≡ t) → (l : Lexing) (go : Span → Result B Refusal) (y : B)
-  → andThen (accept wanted l) go ≡ Ok y → (s : Span) × (l ≡ found t (s .place) (s .after)) × (go s ≡ Ok y)
+    → andThen (accept wanted l) go ≡ Ok y → (s : Span) × (l ≡ found t (s .place) (s .after)) × (go s ≡ Ok y)
 step-inv wanted t only l go y e =
     let w = accept-inv wanted l go y e in
     (w .0, found-as l (w .1) t (w .0) (w .2) (only (w .1) (w .3)), w .4)
 
 pub pick-inv : {A B : Type 0} (wanted : Tok → Option A) (l : Lexing) (go : A × ℕ → Result B Refusal) (y : B) → andThen (pick wanted l) go ≡ Ok y
-  → (s : Span) × (t : Tok) × (v : A) × (l ≡ found t (s .place) (s .after)) × (wanted t ≡ Some v) × (go (v, s .after) ≡ Ok y)
+    → (s : Span) × (t : Tok) × (v : A) × (l ≡ found t (s .place) (s .after)) × (wanted t ≡ Some v) × (go (v, s .after) ≡ Ok y)
 pick-inv wanted (refused f) go y e = absurd (never f y e)
 pick-inv {A} {B} wanted (found t p a) go y e = by (wanted t) refl e
   where
     by : (o : Option A) → wanted t ≡ o → andThen (given o p a) go ≡ Ok y
-      → (s : Span) × (u : Tok) × (v : A) × (found t p a ≡ found u (s .place) (s .after)) × (wanted u ≡ Some v) × (go (v, s .after) ≡ Ok y)
+        → (s : Span) × (u : Tok) × (v : A) × (found t p a ≡ found u (s .place) (s .after)) × (wanted u ≡ Some v) × (go (v, s .after) ≡ Ok y)
     by None w e = absurd (never _ y e)
     by (Some v) w e = (record { place = p; after = a }, t, v, refl, w, e)
 
@@ -213,9 +211,9 @@ pub goes : {A B : Type 0} (r : Result A Refusal) (go : A → Result B Refusal) (
 goes r go x out e f = rw e f
 
 pub steps : {B : Type 0} (wanted : Tok → Bool) (l : Lexing) (go : Span → Result B Refusal) (t : Tok) (s : Span) (out : Result B Refusal)
-  → l ≡ found t (s .place) (s .after) → wanted t ≡ true → go s ≡ out → andThen (accept wanted l) go ≡ out
+    → l ≡ found t (s .place) (s .after) → wanted t ≡ true → go s ≡ out → andThen (accept wanted l) go ≡ out
 steps wanted l go t s out e w f = rw (e, w) f
 
 pub picks : {A B : Type 0} (wanted : Tok → Option A) (l : Lexing) (go : A × ℕ → Result B Refusal) (t : Tok) (s : Span) (v : A) (out : Result B Refusal)
-  → l ≡ found t (s .place) (s .after) → wanted t ≡ Some v → go (v, s .after) ≡ out → andThen (pick wanted l) go ≡ out
+    → l ≡ found t (s .place) (s .after) → wanted t ≡ Some v → go (v, s .after) ≡ out → andThen (pick wanted l) go ≡ out
 picks wanted l go t s v out e w f = rw (e, w) f
