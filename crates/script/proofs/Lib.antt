@@ -5,3 +5,10 @@ pub mod Lexing
 pub mod Tables
 pub mod Turns
 pub mod Whole
+pub mod GrammarSteps
+pub mod GrammarAfter
+pub mod GrammarFaithful
+pub mod GrammarComplete
+pub mod GrammarSound
+pub mod GrammarUnique
+pub mod LawProof

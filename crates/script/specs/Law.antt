@@ -30,13 +30,14 @@ readOf script spans = record {
     orders = ordersOf script (drop (length prologueTokens) spans);
     names = namesOf 0 script (drop (length prologueTokens) spans) }
 
--- granted: the bytes spell a script, the answer is the number of its registers, and the tables hold their
--- orders and names and are blank after them. Refused: the bytes spell no script within the limits, and
--- both tables are blank.
+-- granted: the bytes spell a script, and no other one, the answer is the number of its registers, and the
+-- tables hold their orders and names and are blank after them. Refused: the bytes spell no script within
+-- the limits, and both tables are blank.
 abbrev pub Grammatical : List ℕ → ℕ → ℕ → Result ℕ Refusal → List Order → List Name → Type 0
 Grammatical bytes orders names (Ok count) os ns =
     (script : Script) × (spans : List Span) × Spelled orders names bytes script spans × (count ≡ length script)
     × (os ≡ padded orders blankOrder (readOf script spans .orders)) × (ns ≡ padded names blankName (readOf script spans .names))
+    × ((other : Script) (others : List Span) → Spelled orders names bytes other others → (other ≡ script) × (others ≡ spans))
 Grammatical bytes orders names (Err e) os ns =
     ((script : Script) (spans : List Span) → Spelled orders names bytes script spans → ⊥)
     × (os ≡ padded orders blankOrder []) × (ns ≡ padded names blankName [])
