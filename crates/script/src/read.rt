@@ -5,6 +5,7 @@ ghost use lib.ListN.{length, replicate};
 ghost use Rattle.script.specs.Tokens.{tokenAt};
 ghost use Rattle.script.specs.Steps.{isClose, isEnd, accept, andThen};
 ghost use Rattle.script.specs.Reading.{textIn, prologueAt, blankOrder, blankName, padded, answerOf, ordersLeft, namesLeft};
+ghost use Rattle.script.specs.Law.{Grammatical};
 ghost use Rattle.script.specs.Filled.{readingFor, commandsFor, Filled};
 use refusal::Refusal;
 use source::order::{Act, Order};
@@ -120,11 +121,13 @@ fn read_over(script: &[u8], orders: &mut [Order], names: &mut [Name]) -> Result<
 }
 
 // Reads a script. The order table then holds its orders and the name table its names, each blank after
-// them, and the answer is how many orders there are. At a refusal both tables are blank.
+// them, and the answer is how many orders there are. At a refusal both tables are blank. It is granted
+// exactly when its tokens spell a script of the grammar.
 pub fn read(script: &[u8], orders: &mut [Order], names: &mut [Name]) -> Result<usize, Refusal>
     ensures answer { λ r. ⌜ r ≡ answerOf (readingFor (now (orders .entry)) (now (names .entry)) (now (script .entry))) ⌝ }
     ensures orders { λ _. ⌜ now (orders .exit) ≡ padded (length (now (orders .entry))) blankOrder (ordersLeft (readingFor (now (orders .entry)) (now (names .entry)) (now (script .entry)))) ⌝ }
     ensures names { λ _. ⌜ now (names .exit) ≡ padded (length (now (names .entry))) blankName (namesLeft (readingFor (now (orders .entry)) (now (names .entry)) (now (script .entry)))) ⌝ }
+    ensures grammar { λ r. ⌜ Grammatical (now (script .entry)) (length (now (orders .entry))) (length (now (names .entry))) r (now (orders .exit)) (now (names .exit)) ⌝ }
 {
     read_over(script, orders, names)
 }
