@@ -1,4 +1,4 @@
-pub mod Numerals
+mod Numerals
 mod Places
 mod Wholes
 mod Tables

@@ -5,6 +5,7 @@ use Prim.Native.Nat.{ℕ}
 use Rattle.target.specs.declared.row.Row.{Row}
 use Rattle.text.specs.Lines.{linesOf}
 
+-- lists one after another
 abbrev pub concat : List (List ℕ) → List ℕ
 concat [] = []
 concat (line ∷ lines) = line ++ concat lines

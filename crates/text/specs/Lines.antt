@@ -23,6 +23,7 @@ pairText op a b = op ++ (numeral a ++ (codes " t" ++ (numeral b ++ codes ")")))
 abbrev pub threeText : List ℕ → ℕ → ℕ → ℕ → List ℕ
 threeText op a b c = op ++ (numeral a ++ (codes " t" ++ (numeral b ++ (codes " t" ++ (numeral c ++ codes ")")))))
 
+-- a truth value
 abbrev pub truthText : Bool → List ℕ
 truthText true = codes "true"
 truthText false = codes "false"
@@ -68,9 +69,11 @@ abbrev pub sortText : Sort → List ℕ
 sortText sort.the-variants.Int = codes " () Int "
 sortText sort.the-variants.Bool = codes " () Bool "
 
+-- the line of an unknown
 abbrev pub declaredLine : ℕ → List ℕ
 declaredLine i = codes "(declare-fun t" ++ (numeral i ++ codes " () Int)\n")
 
+-- the line of any other row
 abbrev pub definedLine : ℕ → Row → List ℕ
 definedLine i row = codes "(define-fun t" ++ (numeral i ++ (sortText (sortOf row) ++ (bodyOf row ++ codes ")\n")))
 
@@ -78,9 +81,11 @@ definedLine i row = codes "(define-fun t" ++ (numeral i ++ (sortText (sortOf row
 abbrev pub lineFor : ℕ → Row → List ℕ
 lineFor i row = cond (unknown row) (declaredLine i) (definedLine i row)
 
+-- the line of a table's row i
 abbrev pub rowLine : List Row → ℕ → List ℕ
 rowLine rows i = lineFor i (getD rows i Unknown)
 
+-- the lines of its rows, in their order
 abbrev pub rowLines : List Row → List (List ℕ)
 rowLines rows = map (rowLine rows) (counting 0 (length rows))
 
@@ -88,9 +93,11 @@ rowLines rows = map (rowLine rows) (counting 0 (length rows))
 abbrev pub namedBy : List Assertion → List ℕ
 namedBy assertions = map (λ a. a .row) assertions
 
+-- the line that asserts a row
 abbrev pub assertLine : ℕ → List ℕ
 assertLine row = codes "(assert t" ++ (numeral row ++ codes ")\n")
 
+-- the first line and the last
 abbrev pub logicLine : List ℕ
 logicLine = codes "(set-logic QF_NIA)\n"
 
@@ -101,8 +108,10 @@ checkLine = codes "(check-sat)\n"
 unfoldable pub linesOf : List Row → List ℕ → List (List ℕ)
 linesOf rows asserted = logicLine ∷ (rowLines rows ++ (map assertLine asserted ++ (checkLine ∷ [])))
 
+-- how many lines there are
 abbrev pub lineCount : List Row → List ℕ → ℕ
 lineCount rows asserted = length rows + length asserted + 2
 
+-- line n, and no bytes where there is none
 abbrev pub lineOf : List Row → List ℕ → ℕ → List ℕ
 lineOf rows asserted n = getD (linesOf rows asserted) n []

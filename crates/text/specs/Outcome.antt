@@ -28,10 +28,11 @@ assertedOf counts table = namedBy (take (counts .assertions) table)
 abbrev pub countOf : Counts → ℕ
 countOf counts = counts .rows + counts .assertions + 2
 
--- a table is shorter than its count
+-- whether a table is shorter than its count
 abbrev pub short : Counts → List Row → List Assertion → Bool
 short counts rows assertions = ltb (length rows) (counts .rows) || ltb (length assertions) (counts .assertions)
 
+-- the one refusal of both calls
 abbrev pub theRefusal : Counts → Refusal
 theRefusal counts = record { cause = cause.the-variants.Line; at = countOf counts }
 
@@ -49,13 +50,13 @@ abbrev pub lineAnswer : Counts → List Row → List Assertion → ℕ → ℕ �
 lineAnswer counts rows assertions n size =
     cond (lineRefused counts rows assertions n size) (Err (theRefusal counts)) (Ok (length (theLine counts rows assertions n)))
 
--- and what the buffer, of which `before` stood there, then holds
+-- what the buffer then holds, where `before` stood: the line, and behind it what stood there
 abbrev pub lineBuffer : Counts → List Row → List Assertion → ℕ → List ℕ → List ℕ
 lineBuffer counts rows assertions n before =
     cond (lineRefused counts rows assertions n (length before)) before
     (theLine counts rows assertions n ++ drop (length (theLine counts rows assertions n)) before)
 
--- `write_text` refuses a short table; where it does not, and the text is not written, memory was wanting
+-- what `write_text` answers, `written` or not: it refuses a short table, and fails else only for want of memory
 abbrev pub textAnswer : Counts → List Row → List Assertion → Bool → Result Unit Unwritten
 textAnswer counts rows assertions written =
     cond (short counts rows assertions) (Err (Refused (theRefusal counts))) (cond written (Ok tt) (Err Memory))

@@ -28,5 +28,6 @@ Small (Choose s c a b) = (c < 32768) × (a < 32768) × (b < 32768)
 abbrev pub Limited : List Row → List ℕ → Type 0
 Limited rows asserted = ((k : ℕ) → k < length rows → Small (getD rows k Unknown)) × ((k : ℕ) → k < length asserted → getD asserted k 0 < 32768)
 
+-- then 64 bytes hold each line
 abbrev pub Room : Type 0
 Room = (rows : List Row) (asserted : List ℕ) (n : ℕ) → n < lineCount rows asserted → length rows ≤ 32768 → Limited rows asserted → length (lineOf rows asserted n) ≤ 64

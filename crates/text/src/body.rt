@@ -55,7 +55,7 @@ pub fn body(draft: &mut [u8], at: usize, row: Row) -> usize
         Row::Truth(true) => put(draft, at, b"true"),
         Row::Truth(false) => put(draft, at, b"false"),
         Row::Add(a, b) => pair(draft, at, b"(+ t", a, b),
-        Row::Sub(a, b) => pair(draft, at, b"(+ t", a, b),
+        Row::Sub(a, b) => pair(draft, at, b"(- t", a, b),
         Row::Times(a, b) => pair(draft, at, b"(* t", a, b),
         Row::Quot(a, b) => pair(draft, at, b"(div t", a, b),
         Row::Rem(a, b) => pair(draft, at, b"(mod t", a, b),

@@ -15,7 +15,8 @@ use target::row::Row;
 use workbook::book::Sealed;
 
 // Writes line `n` of the workbook's text at the front of the buffer, and answers its length. `rows` and
-// `assertions` are the workbook's tables.
+// `assertions` are the workbook's tables. Where the call refuses, the number beside the cause is how many
+// lines the text has, and the buffer is as it was.
 pub fn line(
     book: &Sealed,
     rows: &[Row],

@@ -12,6 +12,7 @@ use crate::put::put_number;
 use refusal::Refusal;
 use std::alloc::AllocError;
 
+// Puts the refusal's line at the front of the draft, and answers its length.
 fn put_refusal(draft: &mut [u8], refusal: Refusal) -> usize
     requires { ⌜ 128 ≤ length (now draft) ⌝ }
     ensures bytes { λ r. ⌜ take r (now (draft .exit)) ≡ refusalLine refusal ⌝ }
@@ -26,7 +27,7 @@ fn put_refusal(draft: &mut [u8], refusal: Refusal) -> usize
     put(draft, at, b"\n")
 }
 
-// Appends the refusal's line to `out`.
+// Appends the refusal's line to `out`, which is as it was where memory runs out.
 pub fn write_refusal(refusal: Refusal, out: &mut Vec<u8>) -> Result<(), AllocError>
     ensures outcome { λ r. ⌜ vec-items (now (out .exit)) ≡ cond (isOk r) (vec-items (now (out .entry)) ++ refusalLine refusal) (vec-items (now (out .entry))) ⌝ }
     ensures enough { λ r. ⌜ (vec-len (now (out .entry)) + length (refusalLine refusal) ≤ vec-cap (now (out .entry)) → isOk r ≡ true) ⌝ }

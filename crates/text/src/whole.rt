@@ -19,13 +19,15 @@ use target::row::Row;
 use workbook::book::Sealed;
 use workbook::counts::Counts;
 
-// Why a text was not written.
+// Why a text was not written: memory ran out, or a table is shorter than its count.
 #[derive(Drop, Debug)]
 pub enum Unwritten {
     Memory,
     Refused(Refusal),
 }
 
+// Appends the text of all these rows and assertions. Where memory runs out, some of it stands behind what
+// `out` held.
 fn append_lines(rows: &[Row], assertions: &[Assertion], out: &mut Vec<u8>) -> Result<(), AllocError>
     ensures all { λ r. ⌜ (isOk r ≡ true → vec-items (now (out .exit)) ≡ vec-items (now (out .entry)) ++ textOf (now (rows .entry)) (namedBy (now (assertions .entry)))) ⌝ }
     ensures enough { λ r. ⌜ (vec-len (now (out .entry)) + length (textOf (now (rows .entry)) (namedBy (now (assertions .entry)))) ≤ vec-cap (now (out .entry)) → isOk r ≡ true) ⌝ }
@@ -72,7 +74,8 @@ fn append_text(
     }
 }
 
-// Appends the workbook's text to `out`. `rows` and `assertions` are the workbook's tables.
+// Appends the workbook's text to `out`. `rows` and `assertions` are the workbook's tables. Where the call
+// fails, `out` holds what it held.
 pub fn write_text(
     book: &Sealed,
     rows: &[Row],
