@@ -74,5 +74,5 @@ module _ {R : Type 0} (whole : ℕ → R) (x : Result Read Refusal) (t : Tables 
   pub from-sealed : (sealed last : Counts) (t′ : Tables R) (k : ℕ) → sealed ≡ last → (Ok k, pagesAt last t′) ≡ fed whole (pagesAt counts t) (take (m - 0) (drop 0 os))
       → (Ok (sealed .sources), pagesAt sealed t′) ≡ enteredFrom whole x (pagesAt nothingUsed t)
   from-sealed sealed last t′ k e f =
-      let s : sealed .sources ≡ k = ap (λ (c : Counts). c .sources) e ∙ sym (fed-answer whole _ _ (pagesAt last t′) k f) in
+      let s : sealed .sources ≡ k = ap (λ (c : Counts). c .sources) e ∙ sym (fed-answer whole (take (m - 0) (drop 0 os)) (pagesAt counts t) (pagesAt last t′) k f) in
       ap (λ (i : ℕ). (Ok i, pagesAt sealed t′)) s ∙ ap (λ (c : Counts). (Ok k, pagesAt c t′)) e ∙ from-begun (Ok k) (pagesAt last t′) f
