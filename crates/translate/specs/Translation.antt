@@ -26,11 +26,9 @@ enteredFrom whole (Err e) p = (Err e, p)
 abbrev pub translation : {R : Type 0} → (ℕ → R) → ℕ → ℕ → List ℕ → Pages R → Outcome R
 translation whole orders names bytes p = enteredFrom whole (readFor orders names bytes) p
 
--- granted: the sealed workbook and the tables are those of the translation, and every table is as long as its
--- count. Refused: so is the refusal, and the tables hold what the orders before it made.
-abbrev pub Translated : {R : Type 0} → (ℕ → R) → ℕ → ℕ → List ℕ → Tables R → Result Sealed Refusal → Tables R → Type 0
-Translated whole orders names bytes before (Ok book) after =
-    ((Ok (book .counts .sources), pagesAt (book .counts) after) ≡ translation whole orders names bytes (pagesAt nothingUsed before))
-    × Long (pagesAt (book .counts) after)
-Translated whole orders names bytes before (Err e) after =
-    (counts : Counts) × ((Err e, pagesAt counts after) ≡ translation whole orders names bytes (pagesAt nothingUsed before))
+-- an outcome as a call leaves it. Granted: the sealed workbook's counts and the tables are the outcome's, and
+-- every table is as long as its count. Refused: the refusal is the outcome's, and so are the tables, which hold
+-- what the orders before it made.
+abbrev pub Left : {R : Type 0} → Outcome R → Result Sealed Refusal → Tables R → Type 0
+Left o (Ok book) t = ((Ok (book .counts .sources), pagesAt (book .counts) t) ≡ o) × Long (pagesAt (book .counts) t)
+Left o (Err e) t = (counts : Counts) × ((Err e, pagesAt counts t) ≡ o)

@@ -3,7 +3,8 @@ ghost use mathlib.Core.Path.{_≡_};
 ghost use lib.ListN.{length};
 ghost use Rattle.script.specs.Reading.{blankOrder, blankName, padded, ordersLeft, namesLeft};
 ghost use Rattle.workbook.specs.Held.{SameTables};
-ghost use Rattle.translate.specs.Translation.{readFor, Translated};
+ghost use Rattle.workbook.specs.Pages.{pagesAt, nothingUsed};
+ghost use Rattle.translate.specs.Translation.{readFor, translation, Left};
 use keeper::keeper::Keeper;
 use refusal::Refusal;
 use script::names::Name;
@@ -22,7 +23,7 @@ pub fn translate<K: Keeper>(
     keeper: &K,
     t: &mut Tables<'_, K::Record>,
 ) -> Result<Sealed, Refusal>
-    ensures outcome { λ r. ⌜ Translated (whole (now (keeper .entry))) (length (now (orders .entry))) (length (now (names .entry))) (now (script .entry)) (now (t .entry)) r (now (t .exit)) ⌝ }
+    ensures outcome { λ r. ⌜ Left (translation (whole (now (keeper .entry))) (length (now (orders .entry))) (length (now (names .entry))) (now (script .entry)) (pagesAt nothingUsed (now (t .entry)))) r (now (t .exit)) ⌝ }
     ensures order_table { λ _. ⌜ now (orders .exit) ≡ padded (length (now (orders .entry))) blankOrder (ordersLeft (readFor (length (now (orders .entry))) (length (now (names .entry))) (now (script .entry)))) ⌝ }
     ensures name_table { λ _. ⌜ now (names .exit) ≡ padded (length (now (names .entry))) blankName (namesLeft (readFor (length (now (orders .entry))) (length (now (names .entry))) (now (script .entry)))) ⌝ }
     ensures lent { λ _. ⌜ SameTables (now (t .entry)) (now (t .exit)) ⌝ }

@@ -7,7 +7,7 @@ use Rattle.std.specs.declared.result.Result.{Result}
 use Rattle.std.specs.declared.result.Result.the-variants.{Ok, Err}
 use Rattle.workbook.specs.Pages.{Pages, pagesIn, pagesAt, nothingUsed}
 use Rattle.workbook.specs.declared.counts.Counts.{Counts}
-use Rattle.translate.specs.Translation.{readFor, Translated}
+use Rattle.translate.specs.Translation.{readFor}
 use Rattle.workbook.specs.Room.{Long}
 use Rattle.translate.proofs.Steps.{read-refused, from-begun, from-sealed}
 use Rattle.translate.proofs.translate.translate.Needs as need
