@@ -9,3 +9,5 @@ pub mod book;
 pub mod tables;
 mod enter;
 pub mod calls;
+#[cfg(test)]
+mod tests;
