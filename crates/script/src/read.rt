@@ -9,8 +9,9 @@ ghost use Rattle.script.specs.Filled.{readingFor, commandsFor, Filled};
 use refusal::Refusal;
 use source::order::{Act, Order};
 use crate::command::Keyword;
-use crate::declaration::{declaration, full};
+use crate::declaration::declaration;
 use crate::names::Name;
+use crate::refuse::full;
 use crate::steps::{close, end, keyword, open, word};
 use crate::token::Span;
 
