@@ -20,11 +20,11 @@ module _ (c : Class) (xs : List ℕ) (i : ℕ) (h : i < length xs) where
 
 -- the part between two places, each brought back into the list first
 pub clamped : (xs : List ℕ) (from to start end : ℕ) → end ≡ min to (length xs) → start ≡ min from end
-  → take (end - start) (drop start xs) ≡ textIn xs from to
+    → take (end - start) (drop start xs) ≡ textIn xs from to
 clamped xs from to start end e s =
     same-lists _ _ (simp (length-take, length-drop) (omega arith)) (λ k d h.
-      let n = simp (length-take, length-drop) at h in
-      let l : k < end - start = omega arith in
-      let m : k < to - from = omega arith in
-      let f : start ≡ from = omega arith in
-      getD-take _ _ k d l ∙ (ap (λ p. getD (drop p xs) k d) f ∙ sym (getD-take _ _ k d m)))
+    let n = simp (length-take, length-drop) at h in
+    let l : k < end - start = omega arith in
+    let m : k < to - from = omega arith in
+    let f : start ≡ from = omega arith in
+    getD-take _ _ k d l ∙ (ap (λ p. getD (drop p xs) k d) f ∙ sym (getD-take _ _ k d m)))

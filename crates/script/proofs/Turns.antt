@@ -92,7 +92,7 @@ abbrev pub nameOf : ℕ → Declaration → Name
 nameOf row d = record { place = d .name .place; after = d .name .after; row = row }
 
 pub entered : (orders : List Order) (count : ℕ) (names : List Name) (named place : ℕ) (d : Declaration) → count < length orders → named < length names
-  → declared (readIn orders count names named) place d ≡ readIn (set orders count (orderOf place d)) (count + 1) (set names named (nameOf count d)) (named + 1)
+    → declared (readIn orders count names named) place d ≡ readIn (set orders count (orderOf place d)) (count + 1) (set names named (nameOf count d)) (named + 1)
 entered orders count names named place d h l =
     let c : count ≤ length orders = omega arith in
     rw (take-more-set orders count (orderOf place d) h, take-more-set names named (nameOf count d) l, length-take-le count orders c) refl
@@ -111,8 +111,8 @@ module _ {X : Type 0} (xs : List X) (i : ℕ) (blank : X) (rest : drop i xs ≡ 
 
 -- what the loop leaves
 pub left-at : (w : Result Read Refusal) (orders : List Order) (count : ℕ) (names : List Name) (named : ℕ) → w ≡ Ok (readIn orders count names named)
-  → count ≤ length orders → named ≤ length names → drop count orders ≡ replicate (length orders - count) blankOrder → drop named names ≡ replicate (length names - named) blankName
-  → (Ok count ≡ answerOf w) × Filled w orders names
+    → count ≤ length orders → named ≤ length names → drop count orders ≡ replicate (length orders - count) blankOrder → drop named names ≡ replicate (length names - named) blankName
+    → (Ok count ≡ answerOf w) × Filled w orders names
 left-at w orders count names named e h l b n =
     rw e (ap Ok (sym (length-take-le count orders h)), (is-padded orders count blankOrder b h, is-padded names named blankName n l))
 
@@ -123,5 +123,5 @@ refuses w (Err x) e orders names b h = rw h (ap Err b, tt)
 
 -- the loop's start
 pub starts : (lex : ℕ → Lexing) (text : ℕ → ℕ → List ℕ) (orders : List Order) (names : List Name) (n m from : ℕ) → n ≡ orderRoom (length orders) → m ≡ nameRoom (length names)
-  → Underway lex text m n 0 (readIn orders 0 names 0) from (commandsAt lex text (nameRoom (length names)) (orderRoom (length orders)) nothingRead from)
+    → Underway lex text m n 0 (readIn orders 0 names 0) from (commandsAt lex text (nameRoom (length names)) (orderRoom (length orders)) nothingRead from)
 starts lex text orders names n m from p q = let e : n - 0 ≡ orderRoom (length orders) = omega arith in record { rest = rw (e, q) refl }

@@ -114,7 +114,7 @@ fn read_over(script: &[u8], orders: &mut [Order], names: &mut [Name]) -> Result<
     match attempt(script, orders, names) {
         Ok(count) => Ok(count),
         Err(refusal) => {
-            blank(orders, names);
+            blank(orders, names); // what was read up to the refusal goes
             Err(refusal)
         }
     }

@@ -25,4 +25,5 @@ returns c =
     let w = sym (from-commands (orderRoom (length (c .args .orders .now))) (nameRoom (length (c .args .names .now))) (c .args .script .now) (omega arith) _ (c .in-Continue-start .ensures tt)) in
     record {
       answer = subst (λ x. c .commands .result ≡ answerOf x) w (c .commands .ensures .answer);
-      tables = subst (λ x. Filled x (c .commands .last .orders) (c .commands .last .names)) w (c .commands .ensures .tables) }
+      tables = subst (λ x. Filled x (c .commands .last .orders) (c .commands .last .names)) w (c .commands .ensures .tables);
+    }
