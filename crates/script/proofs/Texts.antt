@@ -1,12 +1,11 @@
 -- Parts of a list of bytes.
 use mathlib.Core.Path.{_≡_, refl, sym, ap, _∙_}
 use mathlib.Core.Bool.{true, false}
-use mathlib.Core.List.{List, []}
-use Prim.Native.Nat.{ℕ, _+_, _-_, _<_, _≤_, min}
+use mathlib.Core.List.{List}
+use Prim.Native.Nat.{ℕ, _+_, _-_, _<_, min}
 use native.Mathlib.Omega.{arith}
-use borrow.Author.Needs.{needs}
 use lib.ListN.{length, take, drop, getD, length-take, length-drop}
-use Rattle.std.proofs.shelf.Lists.{at-drop-more, same-lists, getD-take, getD-drop}
+use Rattle.std.proofs.shelf.Lists.{at-drop-more, same-lists, getD-take}
 use Rattle.script.specs.declared.token.Class.{Class}
 use Rattle.script.specs.Bytes.{within, all}
 use Rattle.script.specs.Reading.{textIn}

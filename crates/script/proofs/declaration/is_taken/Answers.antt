@@ -1,5 +1,4 @@
 use mathlib.Core.Path.{sym, ap, _∙_}
-use native.Mathlib.Omega.{arith}
 use lib.ListN.{length-map}
 use Rattle.std.specs.shelf.Text.{sameBytes}
 use Rattle.std.proofs.shelf.Lists.{at-drop-all}

@@ -1,5 +1,4 @@
-use mathlib.Core.Path.{_≡_, sym, ap, _∙_}
-use mathlib.Core.Bool.{false}
+use mathlib.Core.Path.{sym, ap, _∙_}
 use lib.ListN.{length-map}
 use Rattle.script.specs.Tokens.{tokenAt}
 use Rattle.script.specs.Words.{reservedWords, among}
