@@ -18,7 +18,7 @@ fn is_line_end(b: u8) -> bool
 fn is_blank(b: u8) -> bool
     ensures { λ r. ⌜ r ≡ blank b ⌝ }
 {
-    b == b' ' || b == b'\t' || b == b'\r' || b == b'\n'
+    b == b' ' || b == b'\t' || is_line_end(b)
 }
 
 pub fn in_class(class: Class, b: u8) -> bool

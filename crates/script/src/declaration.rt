@@ -5,27 +5,15 @@ ghost use lib.ListN.{length};
 ghost use Rattle.std.specs.Vec.{made};
 ghost use Rattle.script.specs.Tokens.{tokenAt};
 ghost use Rattle.script.specs.Words.{among};
-ghost use Rattle.script.specs.Reading.{badName, full as fullAt, takeName, texts, textIn, sortAt, parametersAt, declarationAt};
-use refusal::{Cause, Refusal};
+ghost use Rattle.script.specs.Reading.{takeName, texts, textIn, sortAt, parametersAt, declarationAt};
+use refusal::Refusal;
 use crate::bytes::{between, same};
 use crate::command::{Declaration, Form};
 use crate::names::Name;
+use crate::refuse::{bad_name, full};
 use crate::steps::{close, name, number, open, word};
 use crate::token::Span;
 use crate::words::is_reserved;
-
-// No room, told at a place.
-pub fn full(place: usize) -> Refusal
-    ensures { λ r. ⌜ r ≡ fullAt place ⌝ }
-{
-    Refusal { cause: Cause::Capacity, at: place }
-}
-
-fn bad_name(place: usize) -> Refusal
-    ensures { λ r. ⌜ r ≡ badName place ⌝ }
-{
-    Refusal { cause: Cause::Name, at: place }
-}
 
 // Whether one of the names so far is this text.
 fn is_taken(script: &[u8], names: &[Name], text: &[u8]) -> bool

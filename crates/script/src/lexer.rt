@@ -3,19 +3,13 @@ ghost use mathlib.Core.Path.{_≡_};
 ghost use Prim.Native.Nat.{_+_};
 ghost use lib.ListN.{length};
 ghost use Rattle.std.specs.Vec.{made};
-ghost use Rattle.script.specs.Tokens.{isConstant, offGrammar, atomToken, tokenAt, shape, said};
+ghost use Rattle.script.specs.Tokens.{isConstant, atomToken, tokenAt, shape, said};
 ghost use Rattle.script.specs.Found.{Numbered, Stands};
-use refusal::{Cause, Refusal};
+use refusal::Refusal;
 use crate::bytes::{all_in, in_class, run_end, skip};
 use crate::numeral::is_numeral;
+use crate::refuse::off_grammar;
 use crate::token::{Class, Lexed, Token};
-
-// Text off the grammar, told at a place.
-pub fn off_grammar(place: usize) -> Refusal
-    ensures { λ r. ⌜ r ≡ offGrammar place ⌝ }
-{
-    Refusal { cause: Cause::Grammar, at: place }
-}
 
 // Whether an atom is # with this letter and at least one digit of a class.
 fn is_constant(text: &[u8], letter: u8, class: Class) -> bool

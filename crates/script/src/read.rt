@@ -10,8 +10,9 @@ ghost use Rattle.script.specs.Filled.{readingFor, commandsFor, Filled};
 use refusal::Refusal;
 use source::order::{Act, Order};
 use crate::command::Keyword;
-use crate::declaration::{declaration, full};
+use crate::declaration::declaration;
 use crate::names::Name;
+use crate::refuse::full;
 use crate::steps::{close, end, keyword, open, word};
 use crate::token::Span;
 
@@ -114,7 +115,7 @@ fn read_over(script: &[u8], orders: &mut [Order], names: &mut [Name]) -> Result<
     match attempt(script, orders, names) {
         Ok(count) => Ok(count),
         Err(refusal) => {
-            blank(orders, names);
+            blank(orders, names); // what was read up to the refusal goes
             Err(refusal)
         }
     }

@@ -1,14 +1,14 @@
 // One step of the reader: the next token, where it is one that the grammar wants there.
 ghost use mathlib.Core.Path.{_≡_};
-ghost use lib.Chars.{codes};
 ghost use Rattle.script.specs.Tokens.{found, tokenAt, shape};
 ghost use Rattle.script.specs.Found.{Numbered};
 ghost use Rattle.script.specs.Steps.{isOpen, isClose, isEnd, isName, isWord, numberIn, keywordOf, keywordIn, accept, given, pick};
 use refusal::Refusal;
 use crate::bytes::same;
 use crate::command::{Form, Keyword};
-use crate::lexer::{next, off_grammar};
+use crate::lexer::next;
 use crate::numeral;
+use crate::refuse::off_grammar;
 use crate::token::{Lexed, Span, Token};
 
 fn is_open(token: Token) -> bool

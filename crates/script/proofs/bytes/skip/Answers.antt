@@ -21,11 +21,11 @@ pub loop-at-again : need.loop-at-again
 loop-at-again c =
     let e = at-drop-more (skipped (c .loop-at .comment)) (c .args .script .now) (c .loop-at .at) 0 (omega arith) in
     let step : skipped (c .loop-at .comment) (getD (c .args .script .now) (c .loop-at .at) 0 ∷ drop (c .loop-at .at + 1) (c .args .script .now)) ≡ 1 + skipped (c .if-comment .comment) (drop (c .loop-at .at + 1) (c .args .script .now)) =
-      elim (c .if-comment .came) [
-        then-comment w ↦ inside _ _ (getD (c .args .script .now) (c .loop-at .at) 0) _ (w .if-comment .taken) (w .comment-is ∙ ap not (w .is-line-end-comment .ensures))
+    elim (c .if-comment .came) [
+      | then-comment w ↦ inside _ _ (getD (c .args .script .now) (c .loop-at .at) 0) _ (w .if-comment .taken) (w .comment-is ∙ ap not (w .is-line-end-comment .ensures))
       | else-comment·then-b-eq59 w ↦ opens _ _ (getD (c .args .script .now) (c .loop-at .at) 0) _ (w .if-comment .left) (w .if-b-eq59 .taken) (w .comment-is)
       | else-comment·else-b-eq59·else-not-is-blank w ↦ passes _ _ (getD (c .args .script .now) (c .loop-at .at) 0) _ (w .if-comment .left) (w .if-b-eq59 .left) (search needs) (w .comment-is ∙ w .if-comment .left)
-      ] in
+    ] in
     (omega arith, omega arith)
 
 pub returns : need.returns

@@ -1,5 +1,4 @@
 use mathlib.Core.Path.{sym, ap, _∙_}
-use native.Mathlib.Omega.{arith}
 use lib.ListN.{length-map}
 use Rattle.std.specs.shelf.Text.{sameBytes}
 use Rattle.std.proofs.shelf.Lists.{at-drop-all}
@@ -12,12 +11,12 @@ use Rattle.script.proofs.declaration.is_taken.Needs as need
 pub returns-then-same : need.returns-then-same
 returns-then-same c =
     sym (part-here (λ n. textIn (c .args .script .now) (n .place) (n .after)) (c .args .names .now) (c .args .text .now) (c .loop-n .n-index) blankName (c .loop-n-test .taken)
-      (ap (λ w. sameBytes w (c .args .text .now)) (sym (c .between .ensures)) ∙ sym (c .if-same .ensures tt))) ∙ c .loop-n .inv
+    (ap (λ w. sameBytes w (c .args .text .now)) (sym (c .between .ensures)) ∙ sym (c .if-same .ensures tt))) ∙ c .loop-n .inv
 
 pub loop-n-again : need.loop-n-again
 loop-n-again c =
     sym (part-later (λ n. textIn (c .args .script .now) (n .place) (n .after)) (c .args .names .now) (c .args .text .now) (c .loop-n .n-index) blankName (c .loop-n-test .taken)
-      (ap (λ w. sameBytes w (c .args .text .now)) (sym (c .between .ensures)) ∙ sym (c .if-same .ensures tt))) ∙ c .loop-n .inv
+    (ap (λ w. sameBytes w (c .args .text .now)) (sym (c .between .ensures)) ∙ sym (c .if-same .ensures tt))) ∙ c .loop-n .inv
 
 pub returns : need.returns
 returns c =

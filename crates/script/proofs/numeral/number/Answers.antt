@@ -1,9 +1,9 @@
-use mathlib.Core.Path.{_≡_, sym, _∙_}
-use Prim.Native.Nat.{_+_, _*_}
+use mathlib.Core.Path.{sym, _∙_}
+use Prim.Native.Nat.{_+_}
 use native.Mathlib.Omega.{arith}
 use lib.ListN.{drop}
 use Rattle.std.proofs.shelf.Lists.{at-drop-all}
-use Rattle.script.specs.Tokens.{valueAfter, valueOf}
+use Rattle.script.specs.Tokens.{valueAfter}
 use Rattle.script.proofs.Values.{one-digit, too-large, fits}
 use Rattle.script.proofs.numeral.number.Needs as need
 

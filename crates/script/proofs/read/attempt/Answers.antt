@@ -1,5 +1,5 @@
 use native.Mathlib.Omega.{arith}
-use mathlib.Core.Path.{_≡_, sym, ap, _∙_, subst}
+use mathlib.Core.Path.{_≡_, sym, subst}
 use lib.ListN.{length}
 use Rattle.std.specs.declared.result.Result.the-variants.{Err}
 use Rattle.script.specs.Reading.{orderRoom, nameRoom, answerOf}
@@ -24,5 +24,6 @@ pub returns : need.returns
 returns c =
     let w = sym (from-commands (orderRoom (length (c .args .orders .now))) (nameRoom (length (c .args .names .now))) (c .args .script .now) (omega arith) _ (c .in-Continue-start .ensures tt)) in
     record {
-      answer = c .commands .ensures .answer ∙ ap answerOf w;
-      tables = subst (λ x. Filled x (c .commands .last .orders) (c .commands .last .names)) w (c .commands .ensures .tables) }
+      answer = subst (λ x. c .commands .result ≡ answerOf x) w (c .commands .ensures .answer);
+      tables = subst (λ x. Filled x (c .commands .last .orders) (c .commands .last .names)) w (c .commands .ensures .tables);
+    }
