@@ -15,3 +15,5 @@ mod bytes;
 mod declaration;
 mod refuse;
 mod steps;
+#[cfg(test)]
+mod tests;
