@@ -1,1 +1,4 @@
 pub mod Widths
+pub mod Numbers
+pub mod Sorts
+pub mod Values

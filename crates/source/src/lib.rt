@@ -3,4 +3,6 @@
 // An order adds one row to the source or requires one. This layer has the widths and sorts of the rows
 // and the orders as they stand in a plain list, each with its place in the script it was read from.
 pub mod width;
+pub mod operator;
 pub mod order;
+pub mod value;
