@@ -21,7 +21,7 @@ fn is_blank(b: u8) -> bool
     b == b' ' || b == b'\t' || is_line_end(b)
 }
 
-pub fn in_class(class: Class, b: u8) -> bool
+pub(crate) fn in_class(class: Class, b: u8) -> bool
     ensures { λ r. ⌜ r ≡ within class b ⌝ }
 {
     match class {
@@ -33,7 +33,7 @@ pub fn in_class(class: Class, b: u8) -> bool
 }
 
 // Whether all bytes of a text are of a class.
-pub fn all_in(class: Class, text: &[u8]) -> bool
+pub(crate) fn all_in(class: Class, text: &[u8]) -> bool
     ensures { λ r. ⌜ r ≡ all class (now (text .entry)) ⌝ }
 {
     for b in text {
@@ -45,7 +45,7 @@ pub fn all_in(class: Class, text: &[u8]) -> bool
 }
 
 // Where the bytes of a class that stand at `from` end.
-pub fn run_end(script: &[u8], class: Class, from: usize) -> usize
+pub(crate) fn run_end(script: &[u8], class: Class, from: usize) -> usize
     ensures value { λ r. ⌜ r ≡ from + leading (within class) (drop from (now (script .entry))) ⌝ }
     ensures bound { λ r. ⌜ r ≤ max from (length (now (script .entry))) ⌝ }
 {
@@ -57,7 +57,7 @@ pub fn run_end(script: &[u8], class: Class, from: usize) -> usize
 }
 
 // Where the first byte that is no blank and in no comment stands, from `from` on.
-pub fn skip(script: &[u8], from: usize) -> usize
+pub(crate) fn skip(script: &[u8], from: usize) -> usize
     ensures value { λ r. ⌜ r ≡ from + skipped false (drop from (now (script .entry))) ⌝ }
     ensures bound { λ r. ⌜ r ≤ max from (length (now (script .entry))) ⌝ }
 {
@@ -78,7 +78,7 @@ pub fn skip(script: &[u8], from: usize) -> usize
 }
 
 // The bytes of a script from one place to another; those past its end are left out.
-pub fn between<'a>(script: &'a [u8], from: usize, to: usize) -> &'a [u8]
+pub(crate) fn between<'a>(script: &'a [u8], from: usize, to: usize) -> &'a [u8]
     ensures { λ r. ⌜ now r ≡ textIn (now (script .entry)) from to ⌝ }
 {
     let end = if to < script.len() { to } else { script.len() };
@@ -87,7 +87,7 @@ pub fn between<'a>(script: &'a [u8], from: usize, to: usize) -> &'a [u8]
 }
 
 // Whether two texts are the same, byte for byte.
-pub fn same(text: &[u8], word: &[u8]) -> bool
+pub(crate) fn same(text: &[u8], word: &[u8]) -> bool
     ensures { λ r. ⌜ r ≡ sameBytes (now (text .entry)) (now (word .entry)) ⌝ }
 {
     text == word

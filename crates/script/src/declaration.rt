@@ -72,7 +72,7 @@ fn parameters(script: &[u8], form: Form, from: usize) -> Result<usize, Refusal>
 }
 
 // The rest of a declaration, after its word. `names` are those so far, and `room` is how many there may be.
-pub fn declaration(script: &[u8], names: &[Name], room: usize, form: Form, from: usize) -> Result<Declaration, Refusal>
+pub(crate) fn declaration(script: &[u8], names: &[Name], room: usize, form: Form, from: usize) -> Result<Declaration, Refusal>
     ensures value { λ r. ⌜ r ≡ declarationAt (tokenAt (now (script .entry))) (textIn (now (script .entry))) room form (now (names .entry)) from ⌝ }
     ensures room { λ r. ⌜ made r (λ d. length (now (names .entry)) < room) ⌝ }
 {

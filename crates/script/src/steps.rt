@@ -64,14 +64,14 @@ fn accepted(lexed: Lexed, wanted: bool) -> Result<Span, Refusal>
     if wanted { Ok(Span { place: lexed.place, after: lexed.after }) } else { Err(off_grammar(lexed.place)) }
 }
 
-pub fn open(script: &[u8], from: usize) -> Result<Span, Refusal>
+pub(crate) fn open(script: &[u8], from: usize) -> Result<Span, Refusal>
     ensures { λ r. ⌜ r ≡ accept isOpen (tokenAt (now (script .entry)) from) ⌝ }
 {
     let lexed = next(script, from)?;
     accepted(lexed, is_open(lexed.token))
 }
 
-pub fn close(script: &[u8], from: usize) -> Result<Span, Refusal>
+pub(crate) fn close(script: &[u8], from: usize) -> Result<Span, Refusal>
     ensures { λ r. ⌜ r ≡ accept isClose (tokenAt (now (script .entry)) from) ⌝ }
 {
     let lexed = next(script, from)?;
@@ -79,7 +79,7 @@ pub fn close(script: &[u8], from: usize) -> Result<Span, Refusal>
 }
 
 // The end of the script.
-pub fn end(script: &[u8], from: usize) -> Result<Span, Refusal>
+pub(crate) fn end(script: &[u8], from: usize) -> Result<Span, Refusal>
     ensures { λ r. ⌜ r ≡ accept isEnd (tokenAt (now (script .entry)) from) ⌝ }
 {
     let lexed = next(script, from)?;
@@ -87,7 +87,7 @@ pub fn end(script: &[u8], from: usize) -> Result<Span, Refusal>
 }
 
 // Any name.
-pub fn name(script: &[u8], from: usize) -> Result<Span, Refusal>
+pub(crate) fn name(script: &[u8], from: usize) -> Result<Span, Refusal>
     ensures { λ r. ⌜ r ≡ accept isName (tokenAt (now (script .entry)) from) ⌝ }
 {
     let lexed = next(script, from)?;
@@ -95,7 +95,7 @@ pub fn name(script: &[u8], from: usize) -> Result<Span, Refusal>
 }
 
 // This very name.
-pub fn word(script: &[u8], from: usize, wanted: &[u8]) -> Result<Span, Refusal>
+pub(crate) fn word(script: &[u8], from: usize, wanted: &[u8]) -> Result<Span, Refusal>
     ensures { λ r. ⌜ r ≡ accept (isWord (now (wanted .entry))) (tokenAt (now (script .entry)) from) ⌝ }
 {
     let lexed = next(script, from)?;
@@ -149,7 +149,7 @@ fn picked<T>(value: Option<T>, place: usize, after: usize) -> Result<(T, usize),
 }
 
 // A numeral: its number, and the place after it.
-pub fn number(script: &[u8], from: usize) -> Result<(u32, usize), Refusal>
+pub(crate) fn number(script: &[u8], from: usize) -> Result<(u32, usize), Refusal>
     ensures { λ r. ⌜ r ≡ pick numberIn (tokenAt (now (script .entry)) from) ⌝ }
 {
     let lexed = next(script, from)?;
@@ -157,7 +157,7 @@ pub fn number(script: &[u8], from: usize) -> Result<(u32, usize), Refusal>
 }
 
 // A command's word: what it asks for, and the place after it.
-pub fn keyword(script: &[u8], from: usize) -> Result<(Keyword, usize), Refusal>
+pub(crate) fn keyword(script: &[u8], from: usize) -> Result<(Keyword, usize), Refusal>
     ensures { λ r. ⌜ r ≡ pick keywordIn (tokenAt (now (script .entry)) from) ⌝ }
 {
     let lexed = next(script, from)?;

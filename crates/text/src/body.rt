@@ -44,7 +44,7 @@ fn three(draft: &mut [u8], at: usize, op: &[u8], a: usize, b: usize, c: usize) -
     put(draft, at, b")")
 }
 
-pub fn body(draft: &mut [u8], at: usize, row: Row) -> usize
+pub(crate) fn body(draft: &mut [u8], at: usize, row: Row) -> usize
     requires { ⌜ at + 80 ≤ length (now draft) ⌝ }
     ensures bytes { λ r. ⌜ take r (now (draft .exit)) ≡ take at (now (draft .entry)) ++ bodyOf row ⌝ }
     ensures most { λ r. ⌜ r ≤ at + 80 ⌝ }

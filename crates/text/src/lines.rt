@@ -68,7 +68,7 @@ fn put_assert(draft: &mut [u8], row: usize) -> usize
 }
 
 // Puts line `n` of the text of these rows and assertions, and answers its length.
-pub fn put_line(draft: &mut [u8], rows: &[Row], assertions: &[Assertion], n: usize) -> usize
+pub(crate) fn put_line(draft: &mut [u8], rows: &[Row], assertions: &[Assertion], n: usize) -> usize
     requires { ⌜ 128 ≤ length (now draft) ⌝ ∗ ⌜ n < lineCount (now rows) (namedBy (now assertions)) ⌝ }
     ensures bytes { λ r. ⌜ take r (now (draft .exit)) ≡ lineOf (now (rows .entry)) (namedBy (now (assertions .entry))) n ⌝ }
     ensures most { λ r. ⌜ r ≤ 128 ⌝ }

@@ -6,7 +6,7 @@ ghost use lib.ListN.{length, take};
 ghost use Rattle.text.specs.Numeral.{numeral};
 
 // Puts `piece` at `at`, and answers the place behind it.
-pub fn put(draft: &mut [u8], at: usize, piece: &[u8]) -> usize
+pub(crate) fn put(draft: &mut [u8], at: usize, piece: &[u8]) -> usize
     requires { ⌜ at + length (now piece) ≤ length (now draft) ⌝ }
     ensures bytes { λ r. ⌜ take r (now (draft .exit)) ≡ take at (now (draft .entry)) ++ now (piece .entry) ⌝ }
     ensures next { λ r. ⌜ r ≡ at + length (now (piece .entry)) ⌝ }
@@ -32,7 +32,7 @@ fn put_digits(draft: &mut [u8], at: usize, n: u64) -> usize
 }
 
 // The same where there is room for any number.
-pub fn put_number(draft: &mut [u8], at: usize, n: u64) -> usize
+pub(crate) fn put_number(draft: &mut [u8], at: usize, n: u64) -> usize
     requires { ⌜ at + 20 ≤ length (now draft) ⌝ }
     ensures bytes { λ r. ⌜ take r (now (draft .exit)) ≡ take at (now (draft .entry)) ++ numeral n ⌝ }
     ensures most { λ r. ⌜ r ≤ at + 20 ⌝ }

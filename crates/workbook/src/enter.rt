@@ -25,7 +25,7 @@ const ROWS: usize = 32768;
 const ASSERTIONS: usize = 4096;
 
 // Whether a table is shorter than its count, and of which kind.
-pub fn short<R>(book: &Open, t: &Tables<'_, R>) -> Option<Cause>
+pub(crate) fn short<R>(book: &Open, t: &Tables<'_, R>) -> Option<Cause>
     ensures { λ r. ⌜ r ≡ shortOf (pagesIn (now (book .entry)) (now (t .entry))) ⌝ }
 {
     let counts = book.counts();
@@ -99,7 +99,7 @@ fn register<K: Keeper>(book: &mut Open, keeper: &K, t: &mut Tables<'_, K::Record
 }
 
 // Enters one order; a refusal tells the number `at`.
-pub fn enter<K: Keeper>(book: &mut Open, keeper: &K, t: &mut Tables<'_, K::Record>, act: Act, at: usize) -> Result<usize, Refusal>
+pub(crate) fn enter<K: Keeper>(book: &mut Open, keeper: &K, t: &mut Tables<'_, K::Record>, act: Act, at: usize) -> Result<usize, Refusal>
     ensures outcome { λ r. ⌜ (r, pagesIn (now (book .exit)) (now (t .exit))) ≡ entered (whole (now (keeper .entry))) at (pagesIn (now (book .entry)) (now (t .entry))) act ⌝ }
     ensures lent { λ _. ⌜ SameTables (now (t .entry)) (now (t .exit)) ⌝ }
 {
@@ -113,7 +113,7 @@ pub fn enter<K: Keeper>(book: &mut Open, keeper: &K, t: &mut Tables<'_, K::Recor
 }
 
 // Enters the orders in turn, up to the first that is refused, whose refusal tells its place.
-pub fn enter_all<K: Keeper>(book: &mut Open, keeper: &K, t: &mut Tables<'_, K::Record>, orders: &[Order]) -> Result<usize, Refusal>
+pub(crate) fn enter_all<K: Keeper>(book: &mut Open, keeper: &K, t: &mut Tables<'_, K::Record>, orders: &[Order]) -> Result<usize, Refusal>
     ensures outcome { λ r. ⌜ (r, pagesIn (now (book .exit)) (now (t .exit))) ≡ enteredAll (whole (now (keeper .entry))) (now (orders .entry)) (pagesIn (now (book .entry)) (now (t .entry))) ⌝ }
     ensures lent { λ _. ⌜ SameTables (now (t .entry)) (now (t .exit)) ⌝ }
 {
