@@ -78,11 +78,6 @@ HasSort s i row = s i ≡ sortOf row
 abbrev pub Obeys : Reading → (ℕ → ℤ) → List Val → ℕ → Row → Type 0
 Obeys reading numbers vs i row = valueAt vs i ≡ rowValue reading numbers vs 0 row
 
--- the last index of a block, `former` where the block is empty
-abbrev pub lastOf : ℕ → ℕ → List Row → ℕ
-lastOf former at [] = former
-lastOf former at (row ∷ rows) = place at (length rows)
-
 -- rows with no unknown among them
 pub unknown-none : (new : List Row) → unknowns new ≡ 0 → (j : ℕ) → j < length new → unknown (getD new j Unknown) ≡ 0
 unknown-none [] e j lt = absurd (omega arith)

@@ -67,3 +67,11 @@ pub then-laid : (rows mid after : List Row) (at n : ℕ) (xs ys : List Row) → 
     after ≡ laid rows at (xs ++ ys)
 then-laid rows mid after at n xs ys em ea en room =
     ea ∙ ap (λ (t : List Row). laid t n ys) em ∙ ap (λ (m : ℕ). laid (laid rows at xs) m ys) (sym en) ∙ laid-laid rows at xs ys (omega arith)
+
+-- three blocks
+pub laid-three : (rows one two three : List Row) (at m n : ℕ) (xs ys zs : List Row) → one ≡ laid rows at xs → two ≡ laid one m ys → three ≡ laid two n zs →
+    at + length xs ≡ m → at + length (xs ++ ys) ≡ n → n + length zs ≤ length rows → three ≡ laid rows at (xs ++ (ys ++ zs))
+laid-three rows one two three at m n xs ys zs ex ey ez em en room =
+    let all : length (xs ++ ys) ≡ length xs + length ys = length-append xs ys in
+    then-laid rows two three at n (xs ++ ys) zs (then-laid rows one two at m xs ys ex ey em (omega arith)) ez en room
+    ∙ ap (laid rows at) (append-assoc xs ys zs)

@@ -1,0 +1,5 @@
+pub mod Refusing
+pub mod Stated
+pub mod Shared
+pub mod SumRows
+pub mod BitwiseRows
