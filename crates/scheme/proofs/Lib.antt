@@ -1,1 +1,7 @@
 pub mod Turning
+pub mod Ands
+pub mod Digits
+pub mod TurnLaws
+pub mod Owed
+pub mod SumOwes
+pub mod BitwiseOwes

@@ -23,6 +23,11 @@ pub last-next : (former at : ℕ) (xs : List Row) → 1 ≤ length xs → lastOf
 last-next former at [] h = absurd (omega arith)
 last-next former at (x ∷ xs) h = omega arith
 
+-- the same of every block, where `former` is the row before it
+pub last-on : (former at : ℕ) (xs : List Row) → former + 1 ≡ at → lastOf former at xs + 1 ≡ at + length xs
+last-on former at [] e = omega arith
+last-on former at (x ∷ xs) e = omega arith
+
 module _ (turn : Turns) (first at : ℕ) where
   abbrev done : ℕ → List Row
   done i = turns turn first at i

@@ -1,13 +1,11 @@
 -- The rows of the scheme that compares bit by bit.
-use mathlib.Core.Path.{_≡_}
 use mathlib.Core.Bool.{true}
 use mathlib.Core.List.{List, [], _∷_, _++_}
 use Prim.Native.Nat.{ℕ, _+_, _*_}
-use lib.ListN.{length}
 use Rattle.target.specs.declared.row.Row.{Row}
 use Rattle.target.specs.declared.row.Row.the-variants.{Number, Truth, Equal, And}
 use Rattle.scheme.specs.Stated.{Adds}
-use Rattle.scheme.specs.Shared.{digitRows, pairRows, bothRows, turns}
+use Rattle.scheme.specs.Shared.{digitRows, pairRows, bothRows, turns, Listed}
 
 -- Bit i: its weight, the bits of a, b and c, the and of the first two, whether the bit of c is that, and whether all
 -- bits so far are. The rows `naught`, `one` and `two` are 0, 1 and 2.
@@ -24,7 +22,5 @@ bitwiseRows count k a b c =
 abbrev pub bitwiseSize : ℕ → ℕ
 bitwiseSize k = 13 * k + 4
 
--- exactly these rows are added, and the last of them is the answer
 abbrev pub bitwiseAdds : Adds
-bitwiseAdds before k a b c new answer =
-    (new ≡ bitwiseRows (length before) k a b c) × (answer ≡ length before + (13 * k + 3))
+bitwiseAdds = Listed bitwiseSize bitwiseRows

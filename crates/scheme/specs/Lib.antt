@@ -3,3 +3,4 @@ pub mod Stated
 pub mod Shared
 pub mod SumRows
 pub mod BitwiseRows
+pub mod Eithers

@@ -1,10 +1,12 @@
 -- The rows that and-schemes share.
+use mathlib.Core.Path.{_≡_}
 use mathlib.Core.List.{List, [], _∷_, _++_}
 use Prim.Native.Nat.{ℕ, zero, suc, _+_, _^_}
 use lib.ListN.{length}
 use Rattle.target.specs.declared.row.Sort as sort
 use Rattle.target.specs.declared.row.Row.{Row}
 use Rattle.target.specs.declared.row.Row.the-variants.{Number, Quot, Rem, Equal, And, Choose}
+use Rattle.scheme.specs.Stated.{Adds}
 
 -- A digit of the row x: its quotient by the row `weight`, and the remainder of this by the row `base`. By the
 -- weight 2 ^ i and the base 2 it is the bit i of x. Like all blocks here it begins at the index `at`.
@@ -34,3 +36,9 @@ abbrev pub turns : Turns → ℕ → ℕ → ℕ → List Row
 turns turn first at zero = []
 turns turn first at (suc i) =
     turns turn first at i ++ turn i (lastOf first at (turns turn first at i)) (at + length (turns turn first at i))
+
+-- What a scheme adds whose rows are written out as a list, from how many rows are before, the width and the operands:
+-- exactly those rows, and the last of them is the answer.
+abbrev pub Listed : (ℕ → ℕ) → (ℕ → ℕ → ℕ → ℕ → ℕ → List Row) → Adds
+Listed size list before k a b c new answer =
+    (new ≡ list (length before) k a b c) × (answer + 1 ≡ length before + size k)

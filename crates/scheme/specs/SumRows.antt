@@ -1,12 +1,10 @@
 -- The rows of the scheme that adds up the bits of the and.
-use mathlib.Core.Path.{_≡_}
 use mathlib.Core.List.{List, [], _∷_, _++_}
 use Prim.Native.Nat.{ℕ, _+_, _*_}
-use lib.ListN.{length}
 use Rattle.target.specs.declared.row.Row.{Row}
 use Rattle.target.specs.declared.row.Row.the-variants.{Number, Add, Times, Equal}
 use Rattle.scheme.specs.Stated.{Adds}
-use Rattle.scheme.specs.Shared.{pairRows, bothRows, lastOf, turns}
+use Rattle.scheme.specs.Shared.{pairRows, bothRows, lastOf, turns, Listed}
 
 -- Bit i: its weight, the bits of a and b, their and, its weight times that, and this added to the former total.
 -- The rows `naught`, `one` and `two` are 0, 1 and 2.
@@ -23,7 +21,5 @@ sumRows count k a b c =
 abbrev pub sumSize : ℕ → ℕ
 sumSize k = 11 * k + 4
 
--- exactly these rows are added, and the last of them is the answer
 abbrev pub sumAdds : Adds
-sumAdds before k a b c new answer =
-    (new ≡ sumRows (length before) k a b c) × (answer ≡ length before + (11 * k + 3))
+sumAdds = Listed sumSize sumRows

@@ -11,3 +11,4 @@ pub mod put;
 pub mod turns;
 pub mod sum;
 pub mod bitwise;
+pub mod either;
