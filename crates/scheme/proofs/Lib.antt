@@ -2,6 +2,8 @@ pub mod Turning
 pub mod Ands
 pub mod Digits
 pub mod TurnLaws
+pub mod Fits
 pub mod Owed
+pub mod Lasts
 pub mod SumOwes
 pub mod BitwiseOwes

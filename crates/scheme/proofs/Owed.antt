@@ -1,18 +1,14 @@
 -- What a written list of rows owes, and that an and-scheme that adds it keeps its promise.
 use mathlib.Core.Path.{_≡_, refl, sym, _∙_, ap, subst}
 use mathlib.Core.List.{List, _++_}
-use mathlib.Core.Bool.{Bool, true, false, _||_, cond}
-use Prim.Native.Nat.{ℕ, _+_, _^_, _<_, _≤_, min}
+use Prim.Native.Nat.{ℕ, _+_, _^_, _<_, _≤_}
 use native.Mathlib.Omega.{arith}
 use lib.Bits.{bitAnd}
-use lib.Dec.{eqb, ltb, leb}
+use lib.Dec.{eqb}
 use lib.IntN.{ℤ, pos}
 use lib.ListN.{length, getD, take, length-append}
-use Rattle.std.specs.declared.option.Option.{Option}
-use Rattle.std.specs.declared.option.Option.the-variants.{Some, None}
+use Rattle.std.specs.declared.option.Option.the-variants.{None}
 use Rattle.std.proofs.shelf.Lists.{getD-append-left, getD-take, length-take-le}
-use Rattle.std.proofs.shelf.Tests.{ltb-false, leb-false, or-parts, false≢true}
-use Rattle.refusal.specs.declared.Cause.{Cause}
 use Rattle.target.specs.declared.row.Sort.{Sort}
 use Rattle.target.specs.declared.row.Sort.the-variants as sort
 use Rattle.target.specs.declared.row.Row.{Row}
@@ -24,9 +20,10 @@ use Rattle.target.specs.Meaning.{unknowns, values}
 use Rattle.target.specs.Soundness.{RowSound, Takes, sortAt, Sound}
 use Rattle.target.proofs.Laying.{take-laid}
 use Rattle.target.proofs.Blocks.{Each, Stands, HasSort, Obeys, stands-after, sound-join, block-obeys}
-use Rattle.scheme.specs.Refusing.{isBool, outside, misfit, offWidth, noRoom, causeOf}
+use Rattle.scheme.specs.Refusing.{causeOf}
 use Rattle.scheme.specs.Stated.{Adds, Means, Stated}
 use Rattle.scheme.specs.Shared.{Listed}
+use Rattle.scheme.proofs.Fits.{Fit, fit}
 
 -- The rows `new` after the first `count`, whatever those are: a, b and c are earlier rows of whole numbers.
 pub record Owes (size count k a b c : ℕ) (new : List Row) (answer : ℕ) : Type 0 where
@@ -39,48 +36,6 @@ pub record Owes (size count k a b c : ℕ) (new : List Row) (answer : ℕ) : Typ
   pub means : (reading : Reading) (numbers : ℕ → ℤ) (vs : List Val) (x y z : ℕ) → x < 2 ^ k → y < 2 ^ k → z < 2 ^ k →
       valueAt vs a ≡ int (pos x) → valueAt vs b ≡ int (pos y) → valueAt vs c ≡ int (pos z) → Each (Obeys reading numbers vs) count new →
       valueAt vs answer ≡ bool (eqb z (bitAnd x y))
-
--- what is known where there is no cause to refuse
-pub record Fit (size : ℕ) (rows : List Row) (count k a b c : ℕ) : Type 0 where
-  pub a-in : Takes (sortAt rows) count sort.Int a
-  pub b-in : Takes (sortAt rows) count sort.Int b
-  pub c-in : Takes (sortAt rows) count sort.Int c
-  pub least : 1 ≤ k
-  pub most : k ≤ 32
-  pub room : count + size ≤ length rows
-  pub limit : count + size ≤ 32768
-
-int-sort : (t : Sort) → isBool t ≡ false → t ≡ sort.Int
-int-sort sort.Int e = refl
-int-sort sort.Bool e = absurd (false≢true (sym e))
-
--- a test that is passed where no cause is left
-past : (test : Bool) (cause : Cause) (rest : Option Cause) → cond test (Some cause) rest ≡ None → (test ≡ false) × (rest ≡ None)
-past true cause rest e = let z : _≡_ {A = ℕ} 0 1 = cc in absurd (omega arith)
-past false cause rest e = (refl, e)
-
-none-of : (p q r : Bool) → p || (q || r) ≡ false → (p ≡ false) × (q ≡ false) × (r ≡ false)
-none-of p q r e = let rest = or-parts q r (or-parts p (q || r) e .1) in (or-parts p (q || r) e .0, rest .0, rest .1)
-
-pub fit : (size : ℕ) (rows : List Row) (count k a b c : ℕ) → causeOf size rows count k a b c ≡ None → Fit size rows count k a b c
-fit size rows count k a b c e =
-    let in-table = past (ltb (length rows) count) _ _ e in
-    let operands = past (outside count a b c) _ _ (in-table .1) in
-    let sorts = past (misfit rows a b c) _ _ (operands .1) in
-    let width = past (offWidth k) _ _ (sorts .1) in
-    let roomy = past (noRoom size rows count) _ _ (width .1) in
-    let inside = none-of (leb count a) (leb count b) (leb count c) (operands .0) in
-    let ints = none-of (isBool (sortAt rows a)) (isBool (sortAt rows b)) (isBool (sortAt rows c)) (sorts .0) in
-    let wide = or-parts (ltb k 1) (ltb 32 k) (width .0) in
-    let far = ltb-false (min (length rows) 32768) (count + size) (roomy .0) in
-    record {
-      a-in = (leb-false count a (inside .0), int-sort (sortAt rows a) (ints .0));
-      b-in = (leb-false count b (inside .1), int-sort (sortAt rows b) (ints .1));
-      c-in = (leb-false count c (inside .2), int-sort (sortAt rows c) (ints .2));
-      least = ltb-false k 1 (wide .0);
-      most = ltb-false 32 k (wide .1);
-      room = omega (arith, far);
-      limit = omega (arith, far) }
 
 module _ (size : ℕ) (adds : Adds) (before after : List Row) (count k a b c : ℕ) (new : List Row) (answer : ℕ)
     (owed : Owes size count k a b c new answer) (fits : Fit size before count k a b c)
