@@ -1,1 +1,6 @@
 pub mod Laying
+pub mod Values
+pub mod RowLaw
+pub mod Sounds
+pub mod Euclid
+pub mod Blocks

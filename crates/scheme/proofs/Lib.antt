@@ -1,0 +1,9 @@
+pub mod Turning
+pub mod Ands
+pub mod Digits
+pub mod TurnLaws
+pub mod Fits
+pub mod Owed
+pub mod Lasts
+pub mod SumOwes
+pub mod BitwiseOwes
