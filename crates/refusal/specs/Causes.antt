@@ -3,11 +3,12 @@ use mathlib.Core.List.{List}
 use Prim.Native.Nat.{ℕ}
 use lib.Chars.{codes}
 use Rattle.refusal.specs.declared.Cause.{Cause}
-use Rattle.refusal.specs.declared.Cause.the-variants.{Grammar, Name, Depth, Capacity, Operand, Sort, Range, ConstantRange, SourcesFull, TargetFull, Level, ModelLength, RegisterRange, AndUnknown, Requirement, Line}
+use Rattle.refusal.specs.declared.Cause.the-variants.{NotYet, Grammar, Name, Depth, Capacity, Operand, Sort, Range, ConstantRange, SourcesFull, TargetFull, Level, ModelLength, RegisterRange, AndUnknown, Requirement, Line}
 use Rattle.refusal.specs.declared.Layer as layer
 use Rattle.refusal.specs.declared.Layer.{Layer}
 
 abbrev pub numberOf : Cause → ℕ
+numberOf NotYet = 0
 numberOf Grammar = 1
 numberOf Name = 2
 numberOf Depth = 3
@@ -26,6 +27,7 @@ numberOf Requirement = 14
 numberOf Line = 15
 
 abbrev pub layerOf : Cause → Layer
+layerOf NotYet = layer.the-variants.Workbook
 layerOf Grammar = layer.the-variants.Text
 layerOf Name = layer.the-variants.Text
 layerOf Depth = layer.the-variants.Text

@@ -7,6 +7,8 @@ ghost use Rattle.refusal.specs.Causes.{numberOf, layerOf, wordOf};
 
 #[derive(Clone, Copy, PartialEq, Eq, Debug)]
 pub enum Cause {
+    // an order that the workbook does not take yet
+    NotYet,
     // text off the grammar, or cut short
     Grammar,
     // a name unknown, repeated or reserved; a wrong count of operands
@@ -63,6 +65,7 @@ impl Cause {
         ensures { λ r. ⌜ r ≡ numberOf self ⌝ }
     {
         match self {
+            Cause::NotYet => 0,
             Cause::Grammar => 1,
             Cause::Name => 2,
             Cause::Depth => 3,
@@ -87,7 +90,7 @@ impl Cause {
         match self {
             Cause::Grammar | Cause::Name | Cause::Depth | Cause::Capacity | Cause::ConstantRange => Layer::Text,
             Cause::Operand | Cause::Sort | Cause::Range => Layer::Order,
-            Cause::SourcesFull | Cause::TargetFull | Cause::Level => Layer::Workbook,
+            Cause::NotYet | Cause::SourcesFull | Cause::TargetFull | Cause::Level => Layer::Workbook,
             Cause::ModelLength | Cause::RegisterRange | Cause::AndUnknown | Cause::Requirement => Layer::Model,
             Cause::Line => Layer::Line,
         }

@@ -1,4 +1,5 @@
 // Orders and the source rows they make.
+use crate::operator::{Operator, OperatorDebug, OperatorPartialEq};
 
 // The sort of a source row: a truth value, or bits of a width.
 #[derive(Clone, Copy, PartialEq, Eq, Debug)]
@@ -7,11 +8,19 @@ pub enum Sort {
     Bits(u32),
 }
 
-// What an order asks for. A width may be any number here: a workbook refuses those outside 1 to 32.
+// What an order asks for. Widths, numbers and rows may be any here: a workbook refuses what it cannot take.
 #[derive(Clone, Copy, PartialEq, Eq, Debug)]
 pub enum Act {
     // a register of this width
     Declare(u32),
+    // a constant: its width and its number
+    Constant(u32, u64),
+    // true or false
+    Truth(bool),
+    // an operator on source rows; of the three as many count as the operator has operands
+    Apply(Operator, usize, usize, usize),
+    // that a source row is true; it makes no row
+    Require(usize),
 }
 
 // An order of a plain list, with the place of its first token in the script.

@@ -21,7 +21,7 @@ use Rattle.std.specs.declared.result.Result.the-variants.{Ok, Err}
 use Rattle.refusal.specs.declared.Cause.{Cause}
 use Rattle.refusal.specs.declared.Refusal.{Refusal}
 use Rattle.source.specs.declared.order.Act.{Act}
-use Rattle.source.specs.declared.order.Act.the-variants.{Declare}
+use Rattle.source.specs.declared.order.Act.the-variants.{Declare, Constant, Truth, Apply, Require}
 use Rattle.source.specs.declared.order.Order.{Order}
 use Rattle.workbook.specs.Pages.{Pages}
 use Rattle.workbook.specs.Room.{Long, shortOf, fullFor}
@@ -74,6 +74,10 @@ module _ {R : Type 0} (whole : ℕ → R) where
   -- an order leaves long tables long
   pub entered-long : (at : ℕ) (p : Pages R) (a : Act) → Long p → Long (entered whole at p a .1)
   entered-long at p (Declare k) l = by-cause at p k l (registerCause whole p k) refl
+  entered-long at p (Constant k n) l = l
+  entered-long at p (Truth b) l = l
+  entered-long at p (Apply op a b c) l = l
+  entered-long at p (Require row) l = l
 
   followed-long : (o : Outcome R) (rest : Pages R → Outcome R) → Long (o .1) → ((q : Pages R) → Long q → Long (rest q .1)) → Long (followed o rest .1)
   followed-long (Ok n, q) rest l h = h q l

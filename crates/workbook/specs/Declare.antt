@@ -12,7 +12,7 @@ use Rattle.refusal.specs.declared.Cause.{Cause}
 use Rattle.refusal.specs.declared.Refusal.{Refusal}
 use Rattle.source.specs.Widths.{isWidth}
 use Rattle.source.specs.declared.order.Act.{Act}
-use Rattle.source.specs.declared.order.Act.the-variants.{Declare}
+use Rattle.source.specs.declared.order.Act.the-variants.{Declare, Constant, Truth, Apply, Require}
 use Rattle.source.specs.declared.order.Sort.the-variants.{Bits}
 use Rattle.target.specs.Tables.{laid}
 use Rattle.target.specs.declared.assertion.Kind as kinds
@@ -59,9 +59,13 @@ module _ {R : Type 0} (whole : ℕ → R) where
   abbrev pub registered : Pages R → ℕ → Option Cause × Pages R
   registered p k = elim (registerCause p k) [ None ↦ (None, withRegister p k) | Some cause ↦ (Some cause, p) ]
 
-  -- one order, where no table is short
+  -- one order, where no table is short; only registers are taken yet
   abbrev pub entered : ℕ → Pages R → Act → Outcome R
   entered at p (Declare k) = answered at (registered p k)
+  entered at p (Constant k n) = answered at (Some causes.the-variants.NotYet, p)
+  entered at p (Truth b) = answered at (Some causes.the-variants.NotYet, p)
+  entered at p (Apply op a b c) = answered at (Some causes.the-variants.NotYet, p)
+  entered at p (Require row) = answered at (Some causes.the-variants.NotYet, p)
 
   -- a call of declare: a refusal tells the source row count
   abbrev pub declared : Pages R → ℕ → Outcome R

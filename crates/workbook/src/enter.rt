@@ -105,6 +105,7 @@ pub(crate) fn enter<K: Keeper>(book: &mut Open, keeper: &K, t: &mut Tables<'_, K
 {
     let cause = match act {
         Act::Declare(bits) => register(book, keeper, t, bits),
+        Act::Constant(_, _) | Act::Truth(_) | Act::Apply(_, _, _, _) | Act::Require(_) => Some(Cause::NotYet),
     };
     match cause {
         Some(cause) => Err(Refusal { cause, at }),
