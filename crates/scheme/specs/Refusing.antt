@@ -18,7 +18,7 @@ use Rattle.target.specs.Soundness.{sortAt}
 abbrev pub outside : ℕ → ℕ → ℕ → ℕ → Bool
 outside count a b c = leb count a || (leb count b || leb count c)
 
--- the row at an index is no whole number
+-- a sort is that of truth values
 abbrev pub isBool : Sort → Bool
 isBool sort.the-variants.Int = false
 isBool sort.the-variants.Bool = true
