@@ -2,13 +2,13 @@
 use mathlib.Core.Path.{_≡_, refl, sym, _∙_, ap}
 use mathlib.Core.Bool.{Bool, true, false, _&&_, cond}
 use Prim.Native.Nat.{ℕ, suc, _+_, _*_, _/_, _%_, _^_, _<_, min}
-use native.Mathlib.Nat.{add-comm, mul-comm, mod-eq-of-lt}
+use native.Mathlib.Nat.{mul-comm, mod-eq-of-lt}
 use native.Mathlib.Numerals.{one-add}
 use native.Mathlib.Omega.{arith}
 use lib.Bits.{bitAnd, and-step, and-shr, and-lt}
 use lib.Dec.{eqb}
 use Rattle.std.proofs.shelf.Bits.{mod-pow-add, div-mul-add, mod-mul-add, mod-below}
-use Rattle.std.proofs.shelf.Tests.{eqb-true, eq-eqb, ne-eqb, cases-eq}
+use Rattle.std.proofs.shelf.Tests.{eq-eqb, ne-eqb, cases-eq}
 use lib.Pow.{pow-pos}
 use mathlib.Core.Logic.{⊎-elim}
 

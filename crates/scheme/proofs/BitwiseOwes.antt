@@ -2,7 +2,7 @@
 use mathlib.Core.Path.{_≡_, refl, sym, _∙_, ap}
 use mathlib.Core.List.{List, [], _∷_, _++_}
 use mathlib.Core.Bool.{Bool, true, _&&_}
-use Prim.Native.Nat.{ℕ, suc, _+_, _*_, _/_, _%_, _^_, _<_, _≤_, min}
+use Prim.Native.Nat.{ℕ, suc, _+_, _*_, _/_, _%_, _^_, _<_, min}
 use native.Mathlib.Nat.{mod-eq-of-lt}
 use native.Mathlib.Omega.{arith}
 use lib.Bits.{bitAnd}
@@ -17,7 +17,7 @@ use Rattle.target.specs.declared.row.Sort.the-variants as sort
 use Rattle.target.specs.declared.row.Row.{Row}
 use Rattle.target.specs.declared.row.Row.the-variants.{Number, Truth, Equal, And}
 use Rattle.target.specs.Values.{Val, int, bool, Reading, valueAt}
-use Rattle.target.specs.Meaning.{rowValue, unknowns}
+use Rattle.target.specs.Meaning.{rowValue}
 use Rattle.target.specs.Soundness.{RowSound, Takes}
 use Rattle.target.proofs.Blocks.{Each, HasSort, Obeys, all-each, each-front, each-back, each-join}
 use Rattle.scheme.specs.Shared.{digitRows, pairRows, bothRows, lastOf, turns}

@@ -7,7 +7,6 @@ use native.Mathlib.Omega.{arith}
 use lib.Dec.{eqb, lit<}
 use lib.IntN.{ℤ, pos}
 use lib.Pow.{pow-pos}
-use Rattle.std.proofs.shelf.Bits.{mod-below}
 use Rattle.std.proofs.shelf.Tests.{ne-eqb}
 use Rattle.target.specs.declared.row.Sort.{Sort}
 use Rattle.target.specs.declared.row.Sort.the-variants as sort

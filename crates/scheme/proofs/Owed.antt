@@ -1,5 +1,5 @@
 -- What a written list of rows owes, and that an and-scheme that adds it keeps its promise.
-use mathlib.Core.Path.{_≡_, refl, sym, _∙_, ap, subst}
+use mathlib.Core.Path.{_≡_, sym, _∙_, ap, subst}
 use mathlib.Core.List.{List, _++_}
 use Prim.Native.Nat.{ℕ, _+_, _^_, _<_, _≤_}
 use native.Mathlib.Omega.{arith}
@@ -17,7 +17,7 @@ use Rattle.target.specs.Sorts.{sortOf}
 use Rattle.target.specs.Tables.{laid}
 use Rattle.target.specs.Values.{Val, int, bool, Reading, valueAt}
 use Rattle.target.specs.Meaning.{unknowns, values}
-use Rattle.target.specs.Soundness.{RowSound, Takes, sortAt, Sound}
+use Rattle.target.specs.Soundness.{RowSound, Takes, sortAt}
 use Rattle.target.proofs.Laying.{take-laid}
 use Rattle.target.proofs.Blocks.{Each, Stands, HasSort, Obeys, stands-after, sound-join, block-obeys}
 use Rattle.scheme.specs.Refusing.{causeOf}

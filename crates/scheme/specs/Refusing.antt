@@ -3,7 +3,7 @@ use mathlib.Core.Bool.{Bool, true, false, not, _||_, cond}
 use mathlib.Core.List.{List}
 use Prim.Native.Nat.{ℕ, _+_, min}
 use lib.Dec.{ltb, leb}
-use lib.ListN.{length, getD}
+use lib.ListN.{length}
 use Rattle.std.specs.declared.option.Option.{Option}
 use Rattle.std.specs.declared.option.Option.the-variants.{Some, None}
 use Rattle.refusal.specs.declared.Cause as causes
@@ -11,14 +11,13 @@ use Rattle.refusal.specs.declared.Cause.{Cause}
 use Rattle.target.specs.declared.row.Sort as sort
 use Rattle.target.specs.declared.row.Sort.{Sort}
 use Rattle.target.specs.declared.row.Row.{Row}
-use Rattle.target.specs.declared.row.Row.the-variants.{Unknown}
 use Rattle.target.specs.Soundness.{sortAt}
 
 -- one of the operands is no row in use
 abbrev pub outside : ℕ → ℕ → ℕ → ℕ → Bool
 outside count a b c = leb count a || (leb count b || leb count c)
 
--- the row at an index is no whole number
+-- a sort is that of truth values
 abbrev pub isBool : Sort → Bool
 isBool sort.the-variants.Int = false
 isBool sort.the-variants.Bool = true

@@ -1,6 +1,6 @@
 // The scheme that compares bit by bit.
 ghost use mathlib.Core.Path.{_≡_};
-ghost use Prim.Native.Nat.{ℕ, _+_, _*_, _<_, _≤_};
+ghost use Prim.Native.Nat.{_+_, _*_, _≤_};
 ghost use lib.ListN.{length};
 ghost use Rattle.target.specs.Tables.{laid};
 ghost use Rattle.scheme.specs.BitwiseRows.{bitwiseTurn, bitwiseRows, bitwiseSize, bitwiseAdds};

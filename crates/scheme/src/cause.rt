@@ -1,9 +1,7 @@
 // Why an and-scheme refuses.
 ghost use mathlib.Core.Path.{_≡_};
 ghost use Rattle.scheme.specs.Refusing.{isBool, causeOf};
-ghost use Rattle.target.specs.Soundness.{sortAt};
 ghost use Prim.Native.Nat.{_<_};
-ghost use lib.ListN.{length};
 use refusal::Cause;
 use target::row::{Row, Sort};
 

@@ -2,6 +2,7 @@
 // under many numbers against the machine's own `&`.
 mod expected;
 mod evaluate;
+pub mod listed;
 
 #[cfg(test)]
 mod tests;

@@ -4,3 +4,4 @@ pub mod RowLaw
 pub mod Sounds
 pub mod Euclid
 pub mod Blocks
+pub mod Mets

@@ -10,7 +10,7 @@ use Rattle.std.proofs.shelf.Lists.{getD-push, take-more, take-take, length-take
 use Rattle.target.specs.declared.row.Sort.{Sort}
 use Rattle.target.specs.declared.row.Row.{Row}
 use Rattle.target.specs.declared.row.Row.the-variants.{Unknown, Number, Truth, Add, Sub, Times, Quot, Rem, Equal, Less, AtMost, Not, And, Or, Choose}
-use Rattle.target.specs.Values.{Val, int, bool, Reading, valueAt}
+use Rattle.target.specs.Values.{Val, bool, Reading, valueAt}
 use Rattle.target.specs.Meaning.{rowValue, unknown, unknowns, later, values}
 use Rattle.target.specs.Soundness.{RowSound}
 use Rattle.target.proofs.Values.{values-++, length-values, value-same}

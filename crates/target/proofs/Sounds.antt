@@ -1,8 +1,7 @@
 -- Sound tables: their first rows, and the sorts of their values.
 use mathlib.Core.Path.{_≡_, refl, sym, _∙_, ap}
 use mathlib.Core.List.{List}
-use mathlib.Core.Bool.{Bool, cond}
-use Prim.Native.Nat.{ℕ, zero, suc, _+_, _<_, _≤_, min}
+use Prim.Native.Nat.{ℕ, zero, suc, _<_, min}
 use native.Mathlib.Omega.{arith}
 use lib.IntN.{ℤ}
 use lib.ListN.{length, getD, take, length-take}
@@ -12,9 +11,9 @@ use Rattle.target.specs.declared.row.Sort.{Sort}
 use Rattle.target.specs.declared.row.Row.{Row}
 use Rattle.target.specs.declared.row.Row.the-variants.{Unknown, Number, Truth, Add, Sub, Times, Quot, Rem, Equal, Less, AtMost, Not, And, Or, Choose}
 use Rattle.target.specs.Sorts.{sortOf}
-use Rattle.target.specs.Values.{Val, int, bool, Reading, kind, valueAt}
+use Rattle.target.specs.Values.{Val, Reading, kind, valueAt}
 use Rattle.target.specs.Meaning.{rowValue, unknowns, values}
-use Rattle.target.specs.Soundness.{Takes, RowSound, sortAt, Sound}
+use Rattle.target.specs.Soundness.{RowSound, sortAt, Sound}
 use Rattle.target.proofs.RowLaw.{row-law}
 
 -- a row is sound by the sorts of the earlier rows alone

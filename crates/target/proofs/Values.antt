@@ -1,15 +1,14 @@
 -- The values of a table, of its first rows, and of rows appended to it.
 use mathlib.Core.Path.{_≡_, refl, sym, _∙_, ap}
 use mathlib.Core.List.{List, [], _∷_, _++_, append-assoc, append-nil}
-use mathlib.Core.Bool.{Bool, true, false}
-use Prim.Native.Nat.{ℕ, zero, suc, _+_, _^_, _<_, _≤_}
+use mathlib.Core.Bool.{false}
+use Prim.Native.Nat.{ℕ, zero, suc, _+_, _<_}
 use native.Mathlib.Nat.{add-zero, zero-add, add-assoc}
-use native.Mathlib.Omega.{arith}
-use lib.IntN.{ℤ, pos}
-use lib.ListN.{length, getD, take, drop, set}
-use Rattle.std.proofs.shelf.Lists.{getD-take, getD-push, take-more-set, length-take-le}
+use lib.IntN.{ℤ}
+use lib.ListN.{length, getD, take}
+use Rattle.std.proofs.shelf.Lists.{getD-take}
 use Rattle.target.specs.declared.row.Row.{Row}
-use Rattle.target.specs.Values.{Val, int, bool, Reading, valueAt}
+use Rattle.target.specs.Values.{Val, bool, Reading, valueAt}
 use Rattle.target.specs.Meaning.{rowValue, unknown, unknowns, later, values}
 
 module _ (reading : Reading) (numbers : ℕ → ℤ) where

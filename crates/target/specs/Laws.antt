@@ -7,7 +7,7 @@ use lib.IntN.{ℤ, pos, natAbs, _+ℤ_, _*ℤ_}
 use lib.ListN.{length, take, getD}
 use Rattle.target.specs.declared.row.Row.{Row}
 use Rattle.target.specs.declared.row.Row.the-variants.{Unknown}
-use Rattle.target.specs.Values.{Val, Reading, kind, valueAt}
+use Rattle.target.specs.Values.{Reading, kind, valueAt}
 use Rattle.target.specs.Division.{quot, rem}
 use Rattle.target.specs.Meaning.{rowValue, unknowns, values}
 use Rattle.target.specs.Soundness.{sortAt, Sound}

@@ -1,8 +1,7 @@
 -- What two ands in a row come to.
 use mathlib.Core.Path.{_≡_, refl, sym, _∙_, ap, subst}
-use mathlib.Core.Bool.{_&&_}
 use mathlib.Core.List.{List, [], _∷_, _++_}
-use Prim.Native.Nat.{ℕ, _+_, _-_, _*_, _<_, _≤_}
+use Prim.Native.Nat.{ℕ, _+_, _-_, _*_, _≤_}
 use native.Mathlib.Omega.{arith}
 use lib.Dec.{lit<}
 use lib.ListN.{length, getD, take, drop, length-append}
@@ -16,8 +15,7 @@ use Rattle.target.specs.declared.row.Row.{Row}
 use Rattle.target.specs.declared.row.Row.the-variants.{Unknown, And}
 use Rattle.target.specs.Sorts.{sortOf}
 use Rattle.target.specs.Tables.{laid}
-use Rattle.target.specs.Values.{bool, valueAt}
-use Rattle.target.specs.Meaning.{rowValue, values}
+use Rattle.target.specs.Meaning.{rowValue}
 use Rattle.target.specs.Soundness.{RowSound, Takes, sortAt, Sound}
 use Rattle.target.proofs.Laying.{length-laid, take-laid, drop-laid, before-laid}
 use Rattle.target.proofs.Blocks.{Each, Stands, all-each, stands-after, sound-join, block-obeys}

@@ -1,7 +1,7 @@
 use mathlib.Core.Path.{refl, _∙_}
 use mathlib.Core.Bool.{true}
-use mathlib.Core.List.{List, [], _∷_}
-use Prim.Native.Nat.{ℕ, _+_}
+use mathlib.Core.List.{[], _∷_}
+use Prim.Native.Nat.{_+_}
 use native.Mathlib.Omega.{arith}
 use Rattle.target.specs.declared.row.Row.the-variants.{Number, Truth}
 use Rattle.target.proofs.Laying.{then-laid}

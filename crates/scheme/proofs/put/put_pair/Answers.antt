@@ -1,8 +1,7 @@
 use mathlib.Core.Path.{refl, _∙_, ap}
-use mathlib.Core.List.{List, [], _∷_}
+use mathlib.Core.List.{[], _∷_}
 use Prim.Native.Nat.{ℕ, _+_}
 use native.Mathlib.Omega.{arith}
-use Rattle.target.specs.declared.row.Row.{Row}
 use Rattle.target.specs.declared.row.Row.the-variants.{Number}
 use Rattle.target.specs.Tables.{laid}
 use Rattle.target.proofs.Laying.{laid-three}
