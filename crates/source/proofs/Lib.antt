@@ -1,1 +1,4 @@
 pub mod Shifting
+pub mod Bounds
+pub mod Taking
+pub mod Closure

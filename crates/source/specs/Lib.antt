@@ -2,3 +2,4 @@ pub mod Widths
 pub mod Numbers
 pub mod Sorts
 pub mod Values
+pub mod Operands

@@ -7,6 +7,7 @@ pub mod width;
 pub mod operator;
 pub mod order;
 pub mod value;
+pub mod apply;
 mod sorts;
 mod arithmetic;
 mod division;
