@@ -3,3 +3,4 @@ pub mod Numbers
 pub mod Sorts
 pub mod Values
 pub mod Operands
+pub mod Laws

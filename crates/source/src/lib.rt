@@ -8,6 +8,7 @@ pub mod operator;
 pub mod order;
 pub mod value;
 pub mod apply;
+pub mod laws;
 mod sorts;
 mod arithmetic;
 mod division;
