@@ -1,6 +1,5 @@
 -- What the functions on numbers below 2 ^ k give lies below 2 ^ k again.
-use mathlib.Core.Path.{_≡_, refl, sym, _∙_, ap}
-use Prim.Native.Nat.{ℕ, _+_, _-_, _*_, _/_, _%_, _^_, _<_, _≤_}
+use Prim.Native.Nat.{ℕ, _+_, _-_, _/_, _%_, _^_, _<_}
 use native.Mathlib.Nat.{mod-lt, mod-le, div-le-self}
 use native.Mathlib.Omega.{arith}
 use lib.Arith.{digits-lt}

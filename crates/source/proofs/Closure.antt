@@ -1,14 +1,14 @@
 -- What an operator gives for operands that it takes is a value of the sort that it has.
-use mathlib.Core.Path.{_≡_, refl, sym, _∙_, ap}
-use mathlib.Core.Bool.{Bool, true, false, cond, not, _&&_, _||_}
-use Prim.Native.Nat.{ℕ, _+_, _-_, _*_, _/_, _%_, _^_, _<_, _≤_}
+use mathlib.Core.Path.{_≡_, refl, sym}
+use mathlib.Core.Bool.{Bool, true, false, cond, _&&_}
+use Prim.Native.Nat.{ℕ, _+_, _-_, _*_, _/_, _^_, _<_, _≤_}
 use native.Mathlib.Omega.{arith}
-use lib.Bits.{bitAnd, bitOr, bitXor, and-lt, or-lt, xor-lt}
-use lib.Dec.{eqb, leb, ltb}
+use lib.Bits.{and-lt, or-lt, xor-lt}
+use lib.Dec.{leb, ltb}
 use lib.Pow.{shr-le}
 use Rattle.std.proofs.shelf.Tests.{and-parts, cond-true, cond-both, leb-true, ltb-true}
-use Rattle.source.specs.Numbers.{complement, negated, sum, difference, product, quotient, remainder, extracted, joined, shiftedRight, shiftedLeft}
-use Rattle.source.specs.Sorts.{shapeOf, countOf, isBool, isBits, widthOf, alike, fits, inBounds, resultSort}
+use Rattle.source.specs.Numbers.{extracted, joined}
+use Rattle.source.specs.Sorts.{isBool, isBits, widthOf, alike, resultSort}
 use Rattle.source.specs.Values.{sortOf, isValue, numberOf, bitsOf, truthOf, areValues, given, taken, valueOf}
 use Rattle.source.specs.Operands.{Number, Pair, IsOf}
 use Rattle.source.specs.declared.operator.Operator.{Operator}

@@ -1,15 +1,15 @@
 -- Bits of numbers, one by one.
 use mathlib.Core.Path.{_≡_, refl, sym, _∙_, ap}
 use mathlib.Core.Logic.{_⊎_, inl, inr}
-use Prim.Native.Nat.{ℕ, zero, suc, _+_, _-_, _*_, _/_, _%_, _^_, _<_, _≤_, min, max}
-use native.Mathlib.Nat.{mod-lt, mod-eq-of-lt, mul-mod-left, mul-assoc, add-mul, one-mul, add-comm, div-eq-of-lt}
+use Prim.Native.Nat.{ℕ, _+_, _-_, _*_, _/_, _%_, _^_, _<_, _≤_, max}
+use native.Mathlib.Nat.{mul-mod-left, mul-assoc, add-mul, one-mul, add-comm, div-eq-of-lt}
 use native.Mathlib.Omega.{arith}
 use lib.Arith.{digits-div}
 use lib.Bits.{bitAnd, bitOr, bitXor, and-shr, or-shr, xor-shr, and-mod, or-mod, xor-mod, and-lt, or-lt, xor-lt}
 use lib.Dec.{lit<}
 use lib.Pow.{pow-add, pow-pos, pow-mono, field, mod-mod-pow, shl-shr, shr-shr}
 use Rattle.std.proofs.shelf.Bits.{shr-split, mod-below, div-below}
-use Rattle.source.specs.Numbers.{complement, shiftedRight, shiftedLeft, extracted}
+use Rattle.source.specs.Numbers.{complement}
 use Rattle.source.specs.Laws.{bitAt, Bitwise, Shifted, Part}
 use Rattle.source.proofs.Bounds.{rolled-lt, complement-lt}
 use Rattle.source.proofs.Shifting.{left-out, right-out}

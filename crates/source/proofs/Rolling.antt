@@ -1,14 +1,14 @@
 -- Numbers that roll over at 2 ^ k: negatives, differences, quotients, and bits joined and taken out.
-use mathlib.Core.Path.{_≡_, refl, sym, _∙_, ap}
+use mathlib.Core.Path.{_≡_, sym, _∙_, ap}
 use mathlib.Core.Logic.{_⊎_, inl, inr}
-use mathlib.Core.Bool.{true, false, cond}
+use mathlib.Core.Bool.{true, false}
 use Prim.Native.Nat.{ℕ, _+_, _-_, _*_, _/_, _%_, _^_, _<_, _≤_}
 use native.Mathlib.Nat.{mod-lt, mod-self, mod-eq-of-lt, mod-eq-sub-mod, mod-add-mod, add-mod-mod, add-mod-right, div-add-mod, div-one}
 use native.Mathlib.Omega.{arith}
 use lib.Dec.{eqb}
-use lib.Pow.{pow-pos, high, low, recompose}
-use Rattle.std.proofs.shelf.Tests.{cases-lt, cond-true, cond-false, eq-eqb, ne-eqb}
-use Rattle.source.specs.Numbers.{negated, sum, difference, quotient, remainder, extracted, joined}
+use lib.Pow.{high, low, recompose}
+use Rattle.std.proofs.shelf.Tests.{cases-lt, eq-eqb, ne-eqb}
+use Rattle.source.specs.Numbers.{negated, extracted, joined}
 use Rattle.source.specs.Laws.{Negative, Difference, Divided, Joined}
 use Rattle.source.proofs.Bounds.{rolled-lt, joined-lt}
 

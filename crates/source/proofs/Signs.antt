@@ -1,14 +1,12 @@
 -- The signed order and the signed numbers.
-use mathlib.Core.Path.{_≡_, refl, sym, _∙_, ap}
+use mathlib.Core.Path.{_≡_, refl, _∙_, ap}
 use mathlib.Core.Logic.{_⊎_, inl, inr}
-use mathlib.Core.Bool.{Bool, true, false, cond}
-use Prim.Native.Nat.{ℕ, suc, _+_, _-_, _*_, _/_, _%_, _^_, _<_, _≤_}
+use Prim.Native.Nat.{ℕ, suc, _+_, _-_, _*_, _%_, _^_, _<_, _≤_}
 use native.Mathlib.Nat.{two-pow-succ, div-eq-of-lt, div-eq-sub-div, mod-eq-of-lt}
 use native.Mathlib.Omega.{arith}
-use lib.Dec.{eqb, leb, ltb}
-use lib.IntN.{ℤ, pos, negsuc, negℤ, _+ℤ_, _-ℤ_}
+use lib.Dec.{ltb}
+use lib.IntN.{pos, _+ℤ_, _-ℤ_}
 use lib.Pow.{pow-pos}
-use lib.Signed.{_≤ℤ_, _<ℤ_, ltZ, leZ}
 use Rattle.std.specs.Numbers.{remEuclid}
 use Rattle.std.specs.Orderings.{Decides}
 use Rattle.std.proofs.shelf.Signed.{ints, remEuclid-is}

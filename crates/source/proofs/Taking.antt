@@ -1,13 +1,12 @@
 -- What follows where an operator takes its operands.
 use mathlib.Core.Path.{_≡_, refl, sym, _∙_, ap}
-use mathlib.Core.Bool.{Bool, true, false, cond, _&&_, _||_}
-use Prim.Native.Nat.{ℕ, _+_, _^_, _<_, _≤_}
+use mathlib.Core.Bool.{Bool, true}
+use Prim.Native.Nat.{ℕ, _^_, _<_, _≤_}
 use native.Mathlib.Omega.{arith}
-use lib.Dec.{eqb, leb, ltb}
-use Rattle.std.proofs.shelf.Tests.{and-parts, and-from, leb-true, ltb-true, eqb-true, le-leb, lt-ltb}
+use Rattle.std.proofs.shelf.Tests.{and-parts, and-from, eqb-true, le-leb, lt-ltb}
 use Rattle.std.proofs.shelf.Ways.{tells}
-use Rattle.source.specs.Sorts.{Shape, one-bits, two-bits, any-bits, one-truth, two-truths, two-alike, choice, shapeOf, countOf, isBool, isBits, widthOf, alike, fits, inBounds}
-use Rattle.source.specs.Values.{sortOf, isValue, numberOf, bitsOf, areValues, taken}
+use Rattle.source.specs.Sorts.{shapeOf, countOf, isBits, widthOf, alike, fits, inBounds}
+use Rattle.source.specs.Values.{sortOf, isValue, bitsOf, areValues, taken}
 use Rattle.source.specs.Operands.{Number, Pair, IsOf}
 use Rattle.source.specs.declared.operator.Operator.{Operator}
 use Rattle.source.specs.declared.order.Sort as sorts

@@ -2,9 +2,9 @@
 -- by what gives zero, by the top bits, by what was divided. Numbers of k bits lie below 2 ^ k.
 use mathlib.Core.Path.{_≡_}
 use mathlib.Core.Logic.{_⊎_}
-use Prim.Native.Nat.{ℕ, _+_, _-_, _*_, _/_, _%_, _^_, _<_, _≤_, min, max}
+use Prim.Native.Nat.{ℕ, _+_, _-_, _*_, _/_, _%_, _^_, _<_, _≤_, max}
 use lib.Bits.{bitAnd, bitOr, bitXor}
-use lib.IntN.{ℤ, pos, negℤ}
+use lib.IntN.{pos, negℤ}
 use lib.Signed.{_≤ℤ_, _<ℤ_}
 use Rattle.std.specs.Numbers.{remEuclid}
 use Rattle.std.specs.Orderings.{Decides}

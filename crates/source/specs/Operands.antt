@@ -1,7 +1,7 @@
 -- What an operator may count on, and what it gives.
 use mathlib.Core.Path.{_≡_}
 use mathlib.Core.Bool.{true}
-use Prim.Native.Nat.{ℕ, _^_, _<_, _≤_}
+use Prim.Native.Nat.{_^_, _<_, _≤_}
 use Rattle.source.specs.Values.{bitsOf, numberOf, isValue, sortOf}
 use Rattle.source.specs.declared.order.Sort.{Sort}
 use Rattle.source.specs.declared.value.Value.{Value}

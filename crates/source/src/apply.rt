@@ -1,8 +1,8 @@
 // The value of an operator.
 ghost use mathlib.Core.Path.{_≡_};
 ghost use mathlib.Core.Bool.{true};
-ghost use Prim.Native.Nat.{ℕ, _+_, _≤_};
-ghost use Rattle.source.specs.Sorts.{Shape, shapeOf, one-bits, two-bits, inBounds, resultSort};
+ghost use Prim.Native.Nat.{_+_, _≤_};
+ghost use Rattle.source.specs.Sorts.{shapeOf, one-bits, two-bits, inBounds, resultSort};
 ghost use Rattle.source.specs.Values.{sortOf, bitsOf, given, taken, valueOf};
 ghost use Rattle.source.specs.Operands.{Number, Pair, IsOf};
 use crate::arithmetic::{add, multiply, negate, subtract};
