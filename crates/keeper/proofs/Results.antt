@@ -23,7 +23,7 @@ width-parts k w =
     let h = and-parts (leb 1 k) (leb k 32) w in
     (leb-true 1 k (h .0), leb-true k 32 (h .1))
 
-width-from : (k : ℕ) → 1 ≤ k → k ≤ 32 → isWidth k ≡ true
+pub width-from : (k : ℕ) → 1 ≤ k → k ≤ 32 → isWidth k ≡ true
 width-from k p q = and-from (leb 1 k) (leb k 32) (le-leb 1 k p) (le-leb k 32 q)
 
 pub value-parts : (v : Value) → isValue v ≡ true → (isWidth (bitsOf v) ≡ true) × (numberOf v < 2 ^ bitsOf v)

@@ -61,20 +61,24 @@ pub trait Keeper {
             holds keeper (makes keeper op k a b c) (numberOf (valueOf op va vb vc))
     };
 
+    // The record of a row of which nothing is known but its width.
     fn anything(&self, width: Width) -> Self::Record
         ensures { λ r. ⌜ r ≡ whole (now (self .entry)) (width .bits) ⌝ };
 
-    // A number that the width has no room for tells nothing.
+    // The record of a constant. A number that the width has no room for tells nothing.
     fn exactly(&self, width: Width, n: u64) -> Self::Record
         ensures { λ r. ⌜ r ≡ exact (now (self .entry)) (width .bits) n ⌝ };
 
+    // No number that the record stands for is smaller.
     fn least(&self, r: Self::Record) -> u64
         ensures { λ n. ⌜ n ≡ lowest (now (self .entry)) r ⌝ };
 
+    // No number that the record stands for is larger.
     fn most(&self, r: Self::Record) -> u64
         ensures { λ n. ⌜ n ≡ highest (now (self .entry)) r ⌝ };
 
-    // An operand that the operator does not have is not looked at: any record will do for it.
+    // The record of a row that applies an operator to rows with the records a, b and c. An operand that the
+    // operator does not have is not looked at: any record will do for it.
     fn made(&self, op: Operator, width: Width, a: Self::Record, b: Self::Record, c: Self::Record) -> Self::Record
         ensures { λ r. ⌜ r ≡ makes (now (self .entry)) op (width .bits) a b c ⌝ };
 }
