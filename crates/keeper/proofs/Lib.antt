@@ -1,1 +1,4 @@
 pub mod Ext
+pub mod Between
+pub mod Results
+pub mod Sound

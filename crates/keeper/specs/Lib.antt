@@ -1,1 +1,3 @@
+pub mod Descriptions
 pub mod Intervals
+pub mod Rules

@@ -1,20 +1,16 @@
 // The interval keeper: knows a least and a most number.
 ghost use mathlib.Core.Path.{_≡_};
 ghost use Prim.Native.Nat.{_^_, _-_, _<_, _≤_};
-ghost use Rattle.keeper.specs.Intervals.{wholeInterval};
+ghost use Rattle.keeper.specs.Intervals.{wholeInterval, between};
+ghost use Rattle.keeper.specs.Rules.{intervalMade};
 use crate::keeper::Keeper;
 use crate::record::IntervalRecord;
+use crate::rules::{all_numbers, common, difference, either, left_over, numbers_between, part, sum};
+use source::operator::Operator;
 use source::width::Width;
 
 #[derive(Clone, Copy)]
 pub struct Interval;
-
-// The largest number of a width.
-fn largest(width: Width) -> u64
-    ensures { λ r. ⌜ r ≡ 2 ^ (width .bits) - 1 ⌝ }
-{
-    (1u64 << width.bits()) - 1
-}
 
 pub impl Keeper for Interval as IntervalKeeper {
     type Record = IntervalRecord;
@@ -23,9 +19,41 @@ pub impl Keeper for Interval as IntervalKeeper {
 
     ghost holds = { λ keeper r n. (r .lo ≤ n) × (n ≤ r .hi) };
 
+    ghost lowest = { λ keeper r. r .lo };
+
+    ghost highest = { λ keeper r. r .hi };
+
     ghost whole = { λ keeper k. wholeInterval k };
 
+    ghost exact = { λ keeper k n. between k n n };
+
+    ghost makes = { λ keeper op k a b c. intervalMade op k a b c };
+
     fn anything(&self, width: Width) -> IntervalRecord {
-        IntervalRecord { width: width.bits(), lo: 0, hi: largest(width) }
+        all_numbers(width)
+    }
+
+    fn exactly(&self, width: Width, n: u64) -> IntervalRecord {
+        numbers_between(width, n, n)
+    }
+
+    fn least(&self, r: IntervalRecord) -> u64 {
+        r.lo
+    }
+
+    fn most(&self, r: IntervalRecord) -> u64 {
+        r.hi
+    }
+
+    fn made(&self, op: Operator, width: Width, a: IntervalRecord, b: IntervalRecord, c: IntervalRecord) -> IntervalRecord {
+        match op {
+            Operator::BvAdd => sum(width, a, b),
+            Operator::BvSub => difference(width, a, b),
+            Operator::BvAnd => common(width, a, b),
+            Operator::BvLshr | Operator::BvUrem => left_over(width, a),
+            Operator::Extract(_, lower) => part(width, lower, a),
+            Operator::Ite => either(width, b, c),
+            _ => all_numbers(width),
+        }
     }
 }
