@@ -7,8 +7,8 @@
 // of two schemes, so that a list of calls can mix them. The other modules have what schemes are made of.
 pub mod scheme;
 pub mod cause;
-pub mod put;
-pub mod turns;
+mod put;
+mod turns;
 pub mod sum;
 pub mod bitwise;
 pub mod either;

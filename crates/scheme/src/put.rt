@@ -8,7 +8,7 @@ use target::row::{Row, Sort};
 use target::table::lay;
 
 // Writes `new` into the table from the index `at` on.
-pub fn put(rows: &mut [Row], at: usize, new: &[Row])
+pub(crate) fn put(rows: &mut [Row], at: usize, new: &[Row])
     requires { ⌜ at + length (now new) ≤ length (now rows) ⌝ }
     ensures { λ _. ⌜ now (rows .exit) ≡ laid (now (rows .entry)) at (now (new .entry)) ⌝ }
 {
@@ -24,7 +24,7 @@ fn weight(i: u32) -> u64
 }
 
 // A digit of the row x.
-pub fn put_digit(rows: &mut [Row], at: usize, x: usize, weight: usize, base: usize)
+pub(crate) fn put_digit(rows: &mut [Row], at: usize, x: usize, weight: usize, base: usize)
     requires { ⌜ at + 2 ≤ length (now rows) ⌝ }
     ensures { λ _. ⌜ now (rows .exit) ≡ laid (now (rows .entry)) at (digitRows x weight base at) ⌝ }
 {
@@ -32,7 +32,7 @@ pub fn put_digit(rows: &mut [Row], at: usize, x: usize, weight: usize, base: usi
 }
 
 // The weight of bit i, and that bit of the rows a and b.
-pub fn put_pair(rows: &mut [Row], at: usize, i: u32, a: usize, b: usize, two: usize)
+pub(crate) fn put_pair(rows: &mut [Row], at: usize, i: u32, a: usize, b: usize, two: usize)
     requires { ⌜ i < 32 ⌝ ∗ ⌜ at + 5 ≤ length (now rows) ⌝ }
     ensures { λ _. ⌜ now (rows .exit) ≡ laid (now (rows .entry)) at (pairRows i a b two at) ⌝ }
 {
@@ -42,7 +42,7 @@ pub fn put_pair(rows: &mut [Row], at: usize, i: u32, a: usize, b: usize, two: us
 }
 
 // The and of the bits p and q, as 1 or 0.
-pub fn put_both(rows: &mut [Row], at: usize, p: usize, q: usize, zero: usize, one: usize)
+pub(crate) fn put_both(rows: &mut [Row], at: usize, p: usize, q: usize, zero: usize, one: usize)
     requires { ⌜ at + 4 ≤ length (now rows) ⌝ }
     ensures { λ _. ⌜ now (rows .exit) ≡ laid (now (rows .entry)) at (bothRows p q zero one at) ⌝ }
 {

@@ -7,7 +7,7 @@ ghost use Rattle.scheme.specs.Shared.{Turns, turns, lastOf};
 use target::row::Row;
 
 // The rows of one digit, from its number i, the last row of the turn before, and the index of its first row.
-pub trait Turn {
+pub(crate) trait Turn {
     ghost block: { Self → Turns };
 
     law some: { (s : Self) (i former at : ℕ) → 1 ≤ length (block s i former at) };
@@ -20,7 +20,7 @@ pub trait Turn {
 }
 
 // Writes the rows of the digits from 0 to below k from the index `at` on, and answers the last of them.
-pub fn put_turns<T: Turn>(turn: &T, rows: &mut [Row], first: usize, at: usize, k: u32) -> usize
+pub(crate) fn put_turns<T: Turn>(turn: &T, rows: &mut [Row], first: usize, at: usize, k: u32) -> usize
     requires { ⌜ k ≤ 32 ⌝ ∗ ⌜ at + length (turns (T·Turn .block (now turn)) first at k) ≤ length (now rows) ⌝ }
     ensures table { λ _. ⌜ now (rows .exit) ≡ laid (now (rows .entry)) at (turns (T·Turn .block (now (turn .entry))) first at k) ⌝ }
     ensures last { λ r. ⌜ r ≡ lastOf first at (turns (T·Turn .block (now (turn .entry))) first at k) ⌝ }

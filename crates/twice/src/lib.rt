@@ -1,11 +1,23 @@
 // A caller of any and-scheme, which knows nothing of it but the interface: two ands in a row, and the and of both
 // answers. That its promise is proved shows that the interface says enough for callers to build on.
+ghost use mathlib.Core.Path.{_≡_};
+ghost use Prim.Native.Nat.{_+_, _≤_};
+ghost use lib.ListN.{length};
+ghost use Rattle.target.specs.Tables.{laid};
 ghost use Rattle.twice.specs.Both.{Outcome};
 use refusal::Refusal;
 use scheme::cause::cause_of;
-use scheme::put::put;
 use scheme::scheme::Scheme;
 use target::row::Row;
+use target::table::lay;
+
+// Writes a row where there is room for it.
+fn put(rows: &mut [Row], at: usize, new: &[Row])
+    requires { ⌜ at + length (now new) ≤ length (now rows) ⌝ }
+    ensures { λ _. ⌜ now (rows .exit) ≡ laid (now (rows .entry)) at (now (new .entry)) ⌝ }
+{
+    let _ = lay(rows, at, new);
+}
 
 // States that the row c is the bitwise and of the rows a and b, and the row e that of the rows c and d, at the width k.
 // Granted, the answer is the row that is true exactly when both are so; refused, the table is as it was.
