@@ -1,7 +1,7 @@
 -- Two interval records are equal where their numbers are.
 use mathlib.Core.Path.{_≡_}
 use mathlib.Core.HLevel.{isProp→PathP}
-use Prim.Native.Nat.{ℕ, _^_, _≤_, _<_}
+use Prim.Native.Nat.{_^_, _≤_, _<_}
 use native.Mathlib.Bridge.{le-prop}
 use Rattle.keeper.specs.declared.record.IntervalRecord.{IntervalRecord}
 

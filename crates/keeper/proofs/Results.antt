@@ -1,6 +1,6 @@
 -- What an operator gives for operands that it takes is a value.
-use mathlib.Core.Path.{_≡_, refl, sym, _∙_, subst}
-use mathlib.Core.Bool.{Bool, true, false, cond, _&&_, _||_}
+use mathlib.Core.Path.{_≡_, refl, sym, subst}
+use mathlib.Core.Bool.{true, false, cond, _&&_}
 use Prim.Native.Nat.{ℕ, _+_, _-_, _*_, _/_, _%_, _^_, _≤_, _<_}
 use native.Mathlib.Nat.{mod-lt, mod-le, div-le-self}
 use native.Mathlib.Omega.{arith}
@@ -11,7 +11,7 @@ use lib.Pow.{pow-pos, pow-add}
 use Rattle.std.proofs.shelf.Bits.{and-le-l, or-lt, xor-lt, shr-le, mul-add-lt}
 use Rattle.std.proofs.shelf.Tests.{and-parts, and-from, cond-both, cond-true, false≢true}
 use Rattle.source.specs.Widths.{isWidth}
-use Rattle.source.specs.Sorts.{Shape, two-bits, any-bits, choice, shapeOf, countOf, alike, isBits, isBool, fits, inBounds, widthOf}
+use Rattle.source.specs.Sorts.{two-bits, any-bits, choice, shapeOf, countOf, alike, isBits, isBool, fits, widthOf}
 use Rattle.source.specs.Values.{sortOf, isValue, numberOf, bitsOf, truthOf, areValues, taken, given, valueOf}
 use Rattle.source.specs.declared.operator.Operator.{Operator}
 use Rattle.source.specs.declared.operator.Operator.the-variants.{BvNot, BvNeg, BvAdd, BvSub, BvMul, BvUdiv, BvUrem, Extract, Concat, BvAnd, BvOr, BvXor, BvLshr, BvShl, BvUlt, BvUle, BvUgt, BvUge, BvSlt, BvSle, BvSgt, BvSge, Equal, Not, And, Or, Ite, Implies}

@@ -1,6 +1,6 @@
 -- The records that the interval keeper makes hold the values' numbers.
-use mathlib.Core.Path.{_≡_, refl, sym, subst, ap, _∙_}
-use mathlib.Core.Bool.{Bool, true, false, cond}
+use mathlib.Core.Path.{_≡_, sym, subst, ap, _∙_}
+use mathlib.Core.Bool.{true}
 use Prim.Native.Nat.{ℕ, zero-le, _+_, _-_, _/_, _%_, _^_, _≤_, _<_, min, max}
 use native.Mathlib.Nat.{mod-lt, mod-eq-of-lt, add-mod-left}
 use native.Mathlib.Omega.{arith}
@@ -11,15 +11,16 @@ use lib.Pow.{pow-pos, shr-mono}
 use Rattle.std.proofs.shelf.Bits.{and-le-l, and-le-r, shr-le}
 use Rattle.std.proofs.shelf.Tests.{cond-both}
 use Rattle.source.specs.Sorts.{shapeOf, countOf}
-use Rattle.source.specs.Values.{isValue, numberOf, bitsOf, truthOf, taken, given, valueOf}
+use Rattle.source.specs.Values.{numberOf, bitsOf, truthOf, taken, given, valueOf}
 use Rattle.source.specs.declared.operator.Operator.{Operator}
-use Rattle.source.specs.declared.operator.Operator.the-variants.{BvNot, BvNeg, BvAdd, BvSub, BvMul, BvUdiv, BvUrem, Extract, Concat, BvAnd, BvOr, BvXor, BvLshr, BvShl, BvUlt, BvUle, BvUgt, BvUge, BvSlt, BvSle, BvSgt, BvSge, Equal, Not, And, Or, Ite, Implies}
+use Rattle.source.specs.declared.operator.Operator.the-variants.{Ite}
 use Rattle.source.specs.declared.value.Value.{Value}
 use Rattle.keeper.specs.declared.record.IntervalRecord.{IntervalRecord}
 use Rattle.keeper.specs.Descriptions.{Describes}
-use Rattle.keeper.specs.Intervals.{isRange, between, wholeInterval}
+use Rattle.keeper.specs.Intervals.{between, wholeInterval}
 use Rattle.keeper.specs.Rules.{sumOf, differenceOf, commonOf, rest, partOf, eitherOf, intervalMade}
 use Rattle.keeper.proofs.Between.{range-parts, in-between}
+use Rattle.keeper.proofs.Ruled.{Kind, adds, subtracts, masks, shifts, divides, cuts, chooses, other, kindOf}
 use Rattle.keeper.proofs.Results.{value-parts, value-given, given-value, pair-of, remainder-le}
 
 abbrev pub In : IntervalRecord → ℕ → Type 0
@@ -74,47 +75,6 @@ in-part k lower x a p =
 
 in-either : (k n : ℕ) (b c : IntervalRecord) → n < 2 ^ k → (min (b .lo) (c .lo) ≤ n) × (n ≤ max (b .hi) (c .hi)) → In (eitherOf k b c) n
 in-either k n b c l h = in-between k (min (b .lo) (c .lo)) (max (b .hi) (c .hi)) n (λ t. h) l
-
--- the operators that the interval keeper has a rule for, and the others
-pub data Kind : Operator → Type 0 where
-  adds : Kind BvAdd
-  subtracts : Kind BvSub
-  masks : Kind BvAnd
-  shifts : Kind BvLshr
-  divides : Kind BvUrem
-  cuts : (upper lower : ℕ) → Kind (Extract upper lower)
-  chooses : Kind Ite
-  other : {op : Operator} → ((k : ℕ) (a b c : IntervalRecord) → intervalMade op k a b c ≡ wholeInterval k) → Kind op
-
-pub kindOf : (op : Operator) → Kind op
-kindOf BvAdd = adds
-kindOf BvSub = subtracts
-kindOf BvAnd = masks
-kindOf BvLshr = shifts
-kindOf BvUrem = divides
-kindOf (Extract u l) = cuts u l
-kindOf Ite = chooses
-kindOf BvNot = other (λ k a b c. refl)
-kindOf BvNeg = other (λ k a b c. refl)
-kindOf BvMul = other (λ k a b c. refl)
-kindOf BvUdiv = other (λ k a b c. refl)
-kindOf Concat = other (λ k a b c. refl)
-kindOf BvOr = other (λ k a b c. refl)
-kindOf BvXor = other (λ k a b c. refl)
-kindOf BvShl = other (λ k a b c. refl)
-kindOf BvUlt = other (λ k a b c. refl)
-kindOf BvUle = other (λ k a b c. refl)
-kindOf BvUgt = other (λ k a b c. refl)
-kindOf BvUge = other (λ k a b c. refl)
-kindOf BvSlt = other (λ k a b c. refl)
-kindOf BvSle = other (λ k a b c. refl)
-kindOf BvSgt = other (λ k a b c. refl)
-kindOf BvSge = other (λ k a b c. refl)
-kindOf Equal = other (λ k a b c. refl)
-kindOf Not = other (λ k a b c. refl)
-kindOf And = other (λ k a b c. refl)
-kindOf Or = other (λ k a b c. refl)
-kindOf Implies = other (λ k a b c. refl)
 
 abbrev Held : IntervalRecord → Value → Type 0
 Held r v = Describes {R = IntervalRecord} (λ r. r .width) In r v

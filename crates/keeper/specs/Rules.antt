@@ -1,6 +1,6 @@
 -- What the interval keeper knows of a result of width k, from what it knows of the operands. `between`
 -- answers all numbers of the width where the ends are not both of it, as where a sum may roll over.
-use mathlib.Core.Bool.{Bool, cond}
+use mathlib.Core.Bool.{cond}
 use Prim.Native.Nat.{ℕ, _+_, _-_, _/_, _^_, min, max}
 use lib.Dec.{leb}
 use Rattle.source.specs.declared.operator.Operator.{Operator}

@@ -1,6 +1,5 @@
 // The interval keeper: knows a least and a most number.
-ghost use mathlib.Core.Path.{_≡_};
-ghost use Prim.Native.Nat.{_^_, _-_, _<_, _≤_};
+ghost use Prim.Native.Nat.{_≤_};
 ghost use Rattle.keeper.specs.Intervals.{wholeInterval, between};
 ghost use Rattle.keeper.specs.Rules.{intervalMade};
 use crate::keeper::Keeper;

@@ -1,5 +1,4 @@
 // The plain keeper: knows only widths.
-ghost use mathlib.Core.Path.{_≡_};
 ghost use Prim.Native.Nat.{_^_, _-_, _<_, min};
 use crate::keeper::Keeper;
 use crate::largest::largest_of_bits;
