@@ -1,7 +1,8 @@
 // The rules of the interval keeper: what is known of a result, from what is known of the operands.
 //
-// Each answers all numbers of the width where its ends are not both of the width. Where the operands are of
-// the result's width, that strikes only sums that may roll over.
+// Each answers all numbers of the width where its ends are not a range of the width. For operands that the
+// operator takes, that strikes only a sum that may roll over and a part with bits cut off above it: the
+// clauses `ends` say so.
 ghost use mathlib.Core.Path.{_≡_};
 ghost use Prim.Native.Nat.{_+_, _-_, _/_, _^_, _≤_, _<_, min, max};
 ghost use Rattle.keeper.specs.Intervals.{wholeInterval, between};
