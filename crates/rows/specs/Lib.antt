@@ -1,0 +1,5 @@
+pub mod Operands
+pub mod Rows
+pub mod Counts
+pub mod Limits
+pub mod Moves
