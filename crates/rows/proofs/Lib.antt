@@ -1,1 +1,4 @@
 pub mod Shifting
+pub mod Parts
+pub mod Counting
+pub mod Grants

@@ -1,11 +1,15 @@
 -- How many rows and assertions an order takes.
+use mathlib.Core.Path.{_≡_}
 use mathlib.Core.Bool.{Bool, true, false, cond}
+use mathlib.Core.List.{List}
 use Prim.Native.Nat.{ℕ, zero, suc, _+_, _-_, _*_, _/_, _^_}
 use lib.Dec.{ltb, leb}
+use lib.ListN.{length}
+use Rattle.target.specs.declared.row.Row.{Row}
 use Rattle.source.specs.declared.operator.Operator.{Operator}
 use Rattle.source.specs.declared.operator.Operator.the-variants.{BvNot, BvNeg, BvAdd, BvSub, BvMul, BvUdiv, BvUrem, Extract, Concat, BvAnd, BvOr, BvXor, BvLshr, BvShl, BvUlt, BvUle, BvUgt, BvUge, BvSlt, BvSle, BvSgt, BvSge, Equal, Not, And, Or, Ite, Implies}
 use Rattle.rows.specs.declared.operands.Operands.{Operands}
-use Rattle.rows.specs.Rows.{top}
+use Rattle.rows.specs.Rows.{top, rowsOf, andRows}
 
 -- the rows that move to the left by each of n amounts
 abbrev pub leftCount : ℕ → ℕ → ℕ → ℕ
@@ -77,6 +81,12 @@ hasAnd Implies = false
 -- all rows of an operator: those of an and-unknown and an and-scheme that adds `size` rows come first
 abbrev pub rowCount : Operator → Operands → ℕ → ℕ
 rowCount op o size = cond (hasAnd op) (6 + size + ownCount op o) (ownCount op o)
+
+-- so many rows there are: of the operator from the index `at` on, and of it with the rows `new` of an and-scheme
+pub record RowsCounted (op : Operator) (o : Operands) (at : ℕ) (new : List Row) : Type 0 where
+  pub own : length (rowsOf op o at) ≡ ownCount op o
+  pub all : hasAnd op ≡ true → length (andRows op o at new) ≡ rowCount op o (length new)
+  pub only : hasAnd op ≡ false → length (rowsOf op o at) ≡ rowCount op o (length new)
 
 -- the range of the and-unknown, and the scheme's answer
 abbrev pub assertionCount : Operator → ℕ

@@ -13,7 +13,10 @@ pub mod operands;
 mod put;
 mod spare;
 pub mod limits;
+pub mod count;
+pub mod register;
 mod shift;
+mod write;
 
 
 
