@@ -2,3 +2,8 @@ pub mod Shifting
 pub mod Parts
 pub mod Counting
 pub mod Grants
+pub mod Whole
+pub mod Ends
+pub mod Chain
+pub mod Images
+pub mod Compared

@@ -3,3 +3,4 @@ pub mod Rows
 pub mod Counts
 pub mod Limits
 pub mod Moves
+pub mod Law
