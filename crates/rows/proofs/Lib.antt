@@ -7,3 +7,4 @@ pub mod Ends
 pub mod Chain
 pub mod Images
 pub mod Compared
+pub mod Sounds
