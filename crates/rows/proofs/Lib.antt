@@ -8,3 +8,5 @@ pub mod Chain
 pub mod Images
 pub mod Compared
 pub mod Sounds
+pub mod Takens
+pub mod Values
