@@ -10,3 +10,6 @@ pub mod Compared
 pub mod Sounds
 pub mod Takens
 pub mod Values
+pub mod Appending
+pub mod OrderSorts
+pub mod OrderLaw

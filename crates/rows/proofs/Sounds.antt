@@ -114,10 +114,10 @@ module _ (s : ℕ → Sort) where
                 (all-each R (at + (2 + n)) pick (((omega arith, test), (omega (arith, some i (at + 2)), picked i former at h), (omega (arith, tf .0), tf .1)), tt))))
             (shift-sound i (at + (2 + n)) (at + (3 + n)) (omega arith) (omega arith, choosing i former at h) (others i former at h))
 
-  right-ends : (a i at : ℕ) → EndsInt at at (rightRows a i at)
+  pub right-ends : (a i at : ℕ) → EndsInt at at (rightRows a i at)
   right-ends a i at h = h 1 (lit< tt)
 
-  left-ends : (k most size a i at : ℕ) → EndsInt at at (leftRows k most size a i at)
+  pub left-ends : (k most size a i at : ℕ) → EndsInt at at (leftRows k most size a i at)
   left-ends k most size a i at =
       cond-both (leb (most * 2 ^ i) (top k)) [] (Rem (at + 1) size ∷ []) (λ t. EndsInt at at (Number (2 ^ i) ∷ Times a at ∷ t)) (λ t h. h 1 (lit< tt)) (λ t h. h 2 (lit< tt))
 

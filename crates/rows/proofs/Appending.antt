@@ -1,0 +1,41 @@
+-- Rows appended to a table.
+use mathlib.Core.Path.{_≡_, refl, sym, _∙_, ap}
+use mathlib.Core.List.{List, _++_}
+use Prim.Native.Nat.{ℕ, _+_, _<_, _≤_}
+use native.Mathlib.Omega.{arith}
+use lib.IntN.{ℤ}
+use lib.ListN.{length, getD, take, length-append}
+use Rattle.std.proofs.shelf.Lists.{take-at, take-all, getD-append-left}
+use Rattle.target.specs.declared.row.Sort.{Sort}
+use Rattle.target.specs.declared.row.Row.{Row}
+use Rattle.target.specs.declared.row.Row.the-variants.{Unknown}
+use Rattle.target.specs.Sorts.{sortOf}
+use Rattle.target.specs.Values.{Reading, valueAt}
+use Rattle.target.specs.Meaning.{unknowns, values}
+use Rattle.target.specs.Soundness.{RowSound, Takes, sortAt, Sound}
+use Rattle.target.proofs.Values.{value-same}
+use Rattle.target.proofs.Blocks.{Each, Stands, HasSort, Obeys, stands-after, sound-join, block-obeys, unknowns-++}
+use Rattle.rows.specs.Law.{Appends}
+
+module _ (front new : List Row) (at : ℕ) (len : length front ≡ at) where
+  abbrev all : List Row
+  all = front ++ new
+
+  pub stands : Each (Stands (front ++ new)) at new
+  stands = stands-after front new at len
+
+  pub sorts : Each (HasSort (sortAt (front ++ new))) at new
+  sorts j lt = ap sortOf (stands j lt)
+
+  -- the sort of an earlier row is as it was
+  pub same-sorts : (p : ℕ) → p < at → sortAt front p ≡ sortAt (front ++ new) p
+  same-sorts p lt = ap sortOf (sym (getD-append-left front new Unknown p (omega arith)))
+
+  pub room : at + length new ≤ length (front ++ new)
+  room = omega (arith, length-append front new)
+
+  pub appended : Each (RowSound (sortAt (front ++ new))) at new → Appends front (front ++ new) (unknowns new)
+  appended sound = record {
+    fresh = unknowns-++ front new;
+    keeps = λ reading numbers i lt. value-same reading numbers at all front (take-at front new at len ∙ sym (take-all at front (omega arith))) i (omega arith);
+    sound = λ h. sound-join front new at len h sound }
