@@ -10,9 +10,11 @@ use Rattle.target.specs.declared.row.Sort.{Sort}
 use Rattle.target.specs.declared.row.Row.{Row}
 use Rattle.target.specs.declared.row.Row.the-variants.{Unknown}
 use Rattle.target.specs.Sorts.{sortOf}
+use Rattle.target.specs.Tables.{laid}
 use Rattle.target.specs.Values.{Reading, valueAt}
 use Rattle.target.specs.Meaning.{unknowns, values}
 use Rattle.target.specs.Soundness.{RowSound, Takes, sortAt, Sound}
+use Rattle.target.proofs.Laying.{take-laid}
 use Rattle.target.proofs.Values.{value-same}
 use Rattle.target.proofs.Blocks.{Each, Stands, HasSort, Obeys, stands-after, sound-join, block-obeys, unknowns-++}
 use Rattle.rows.specs.Law.{Appends}
@@ -39,3 +41,15 @@ module _ (front new : List Row) (at : ℕ) (len : length front ≡ at) where
     fresh = unknowns-++ front new;
     keeps = λ reading numbers i lt. value-same reading numbers at all front (take-at front new at len ∙ sym (take-all at front (omega arith))) i (omega arith);
     sound = λ h. sound-join front new at len h sound }
+
+-- the rows in use after so many were laid
+pub in-use : (before after : List Row) (at n : ℕ) (new : List Row) → length new ≡ n → at + n ≤ length before → after ≡ laid before at new → take (at + n) after ≡ take at before ++ new
+in-use before after at n new len room table =
+    ap (λ m. take (at + m) after) (sym len) ∙ ap (take (at + length new)) table ∙ take-laid before at new (omega arith)
+
+-- rows appended twice
+pub appends-then : (front mid all : List Row) (m n : ℕ) → length front ≤ length mid → Appends front mid m → Appends mid all n → Appends front all (m + n)
+appends-then front mid all m n le p q = record {
+  fresh = omega (arith, p .fresh, q .fresh);
+  keeps = λ reading numbers i lt. q .keeps reading numbers i (omega arith) ∙ p .keeps reading numbers i lt;
+  sound = λ h. q .sound (p .sound h) }

@@ -13,3 +13,4 @@ pub mod Values
 pub mod Appending
 pub mod OrderSorts
 pub mod OrderLaw
+pub mod Usables

@@ -104,7 +104,7 @@ Anded vs op c va vb = hasAnd op ≡ true → valueAt vs c ≡ int (pos (bitAnd (
 pub record OrderMeans (op : Operator) (o : Operands) (front : List Row) (at : ℕ) (all : List Row) : Type 0 where
   pub appends : Suited (sortAt front) at op o → Appends front all 0
   -- the image is of the target sort of the operator's result, where a, b and c are the operands' sorts
-  pub sort-image : (a b c : source-sort.Sort) → source.fits (source.shapeOf op) a b c ≡ true → (op ≡ Ite → o .sort ≡ shownSort b) →
+  pub sort-image : Suited (sortAt front) at op o → (a b c : source-sort.Sort) → source.fits (source.shapeOf op) a b c ≡ true → (op ≡ Ite → o .sort ≡ shownSort b) →
       sortAt all (image op o at) ≡ shownSort (source.resultSort op a b c)
   pub value : Suited (sortAt front) at op o → (reading : Reading) (numbers : ℕ → ℤ) (va vb vc : Value) →
       taken op va vb vc ≡ true → Given (meaning.values reading numbers all) op o va vb vc → Anded (meaning.values reading numbers all) op (o .c) va vb →

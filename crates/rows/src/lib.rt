@@ -17,6 +17,7 @@ pub mod count;
 pub mod register;
 mod shift;
 mod write;
+pub mod order;
 
 
 
