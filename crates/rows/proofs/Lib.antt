@@ -14,3 +14,4 @@ pub mod Appending
 pub mod OrderSorts
 pub mod OrderLaw
 pub mod Usables
+pub mod RegisterLaw

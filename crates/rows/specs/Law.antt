@@ -59,7 +59,7 @@ shownSort source-sort.the-variants.Bool = sort.Bool
 shownSort (source-sort.the-variants.Bits k) = sort.Int
 
 -- A constant or a truth value: one row, of its value.
-pub record LeafMeans (v : Value) (front : List Row) (at : ℕ) (all : List Row) : Type 0 where
+pub record ValueMeans (v : Value) (front : List Row) (at : ℕ) (all : List Row) : Type 0 where
   pub appends : Appends front all 0
   pub value : (reading : Reading) (numbers : ℕ → ℤ) → valueAt (meaning.values reading numbers all) at ≡ shown v
 

@@ -4,3 +4,4 @@ pub mod Counts
 pub mod Limits
 pub mod Moves
 pub mod Law
+pub mod Ands

@@ -10,6 +10,8 @@ use lib.ListN.{length}
 use Rattle.source.specs.declared.operator.Operator as op
 use Rattle.source.specs.declared.operator.Operator.{Operator}
 use Rattle.source.specs.declared.operator.Operator.the-variants.{BvNot, BvNeg, BvAdd, BvSub, BvMul, BvUdiv, BvUrem, Extract, Concat, BvAnd, BvOr, BvXor, BvLshr, BvShl, BvUlt, BvUle, BvUgt, BvUge, BvSlt, BvSle, BvSgt, BvSge, Ite, Implies}
+use Rattle.source.specs.declared.value.Value as value
+use Rattle.source.specs.declared.value.Value.{Value}
 use Rattle.target.specs.declared.row.Sort as sort
 use Rattle.target.specs.declared.row.Row.{Row}
 use Rattle.target.specs.declared.row.Row.the-variants.{Unknown, Number, Truth, Add, Sub, Times, Quot, Rem, Equal, Less, AtMost, Not, And, Or, Choose}
@@ -21,6 +23,11 @@ use Rattle.rows.specs.Operands.{withThird}
 abbrev pub registerRows : ℕ → ℕ → List Row
 registerRows k at =
     Unknown ∷ Number 0 ∷ Number (2 ^ k) ∷ AtMost (at + 1) at ∷ Less at (at + 2) ∷ And (at + 3) (at + 4) ∷ []
+
+-- a constant or a truth value
+abbrev pub valueRow : Value → Row
+valueRow (value.the-variants.Bool b) = Truth b
+valueRow (value.the-variants.Bits k n) = Number n
 
 -- the greatest number of k bits
 abbrev pub top : ℕ → ℕ

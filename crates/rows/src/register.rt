@@ -4,13 +4,14 @@ ghost use mathlib.Core.List.{[], _∷_};
 ghost use mathlib.Core.Path.{_≡_};
 ghost use Prim.Native.Nat.{ℕ, _+_, _≤_};
 ghost use lib.Dec.{leb};
-ghost use lib.ListN.{length};
+ghost use lib.ListN.{length, take};
 ghost use Rattle.source.specs.Widths.{isWidth};
 ghost use Rattle.target.specs.Tables.{laid, laidIfRoom};
-ghost use Rattle.target.specs.declared.row.Row.the-variants.{Number, Truth};
-ghost use Rattle.rows.specs.Rows.{registerRows};
+ghost use Rattle.rows.specs.Rows.{registerRows, valueRow};
+ghost use Rattle.rows.specs.Law.{RegisterMeans, ValueMeans};
 use crate::put::put;
 use crate::spare::power;
+use source::value::Value;
 use target::row::Row;
 use target::table::lay;
 
@@ -34,6 +35,7 @@ pub(crate) fn write_register(rows: &mut [Row], at: usize, k: u32)
 pub fn append_register(rows: &mut [Row], at: usize, k: u32) -> bool
     ensures fits { λ r. ⌜ r ≡ isWidth k && leb (at + 6) (length (now (rows .entry))) ⌝ }
     ensures table { λ r. ⌜ now (rows .exit) ≡ cond r (laid (now (rows .entry)) at (registerRows k at)) (now (rows .entry)) ⌝ }
+    ensures law { λ r. ⌜ (r ≡ true → RegisterMeans k (take at (now (rows .entry))) at (take (at + 6) (now (rows .exit)))) ⌝ }
 {
     if k < 1 || k > 32 {
         return false;
@@ -45,18 +47,21 @@ pub fn append_register(rows: &mut [Row], at: usize, k: u32) -> bool
     true
 }
 
-// Appends the row of a constant. Where it does not fit, nothing is written.
-pub fn append_constant(rows: &mut [Row], at: usize, n: u64) -> bool
-    ensures fits { λ r. ⌜ r ≡ leb (at + 1) (length (now (rows .entry))) ⌝ }
-    ensures table { λ _. ⌜ now (rows .exit) ≡ laidIfRoom (now (rows .entry)) at (Number n ∷ []) ⌝ }
+// The row of a constant or a truth value.
+fn value_row(v: Value) -> Row
+    ensures { λ r. ⌜ r ≡ valueRow v ⌝ }
 {
-    lay(rows, at, &[Row::Number(n)])
+    match v {
+        Value::Bool(b) => Row::Truth(b),
+        Value::Bits(_, n) => Row::Number(n),
+    }
 }
 
-// Appends the row of a truth value. Where it does not fit, nothing is written.
-pub fn append_truth(rows: &mut [Row], at: usize, b: bool) -> bool
+// Appends the row of a constant or a truth value. Where it does not fit, nothing is written.
+pub fn append_value(rows: &mut [Row], at: usize, v: Value) -> bool
     ensures fits { λ r. ⌜ r ≡ leb (at + 1) (length (now (rows .entry))) ⌝ }
-    ensures table { λ _. ⌜ now (rows .exit) ≡ laidIfRoom (now (rows .entry)) at (Truth b ∷ []) ⌝ }
+    ensures table { λ _. ⌜ now (rows .exit) ≡ laidIfRoom (now (rows .entry)) at (valueRow v ∷ []) ⌝ }
+    ensures law { λ r. ⌜ (r ≡ true → ValueMeans v (take at (now (rows .entry))) at (take (at + 1) (now (rows .exit)))) ⌝ }
 {
-    lay(rows, at, &[Row::Truth(b)])
+    lay(rows, at, &[value_row(v)])
 }
