@@ -36,10 +36,14 @@ module _ (front new : List Row) (at : ℕ) (len : length front ≡ at) where
   pub room : at + length new ≤ length (front ++ new)
   room = omega (arith, length-append front new)
 
+  -- and so is its value
+  pub keeps-values : (reading : Reading) (numbers : ℕ → ℤ) (i : ℕ) → i < at → valueAt (values reading numbers (front ++ new)) i ≡ valueAt (values reading numbers front) i
+  keeps-values reading numbers i lt = value-same reading numbers at all front (take-at front new at len ∙ sym (take-all at front (omega arith))) i lt
+
   pub appended : Each (RowSound (sortAt (front ++ new))) at new → Appends front (front ++ new) (unknowns new)
   appended sound = record {
     fresh = unknowns-++ front new;
-    keeps = λ reading numbers i lt. value-same reading numbers at all front (take-at front new at len ∙ sym (take-all at front (omega arith))) i (omega arith);
+    keeps = λ reading numbers i lt. keeps-values reading numbers i (omega arith);
     sound = λ h. sound-join front new at len h sound }
 
 -- the rows in use after so many were laid

@@ -15,3 +15,5 @@ pub mod OrderSorts
 pub mod OrderLaw
 pub mod Usables
 pub mod RegisterLaw
+pub mod AndOps
+pub mod AndLaw
