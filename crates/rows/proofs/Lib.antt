@@ -17,3 +17,4 @@ pub mod Usables
 pub mod RegisterLaw
 pub mod AndOps
 pub mod AndLaw
+pub mod AndCalls

@@ -18,6 +18,7 @@ pub mod register;
 mod shift;
 mod write;
 pub mod order;
+pub mod ands;
 
 
 
