@@ -1,6 +1,6 @@
 -- The call that appends the rows of bvand, bvor or bvxor.
 use mathlib.Core.Path.{_≡_, refl, sym, _∙_, ap, subst}
-use mathlib.Core.Bool.{Bool, true, cond, _&&_}
+use mathlib.Core.Bool.{Bool, true, _&&_}
 use mathlib.Core.List.{List, _++_, append-assoc}
 use Prim.Native.Nat.{ℕ, _+_, _<_, _≤_}
 use native.Mathlib.Omega.{arith}
@@ -13,19 +13,18 @@ use Rattle.std.proofs.shelf.Tests.{and-from, cond-true}
 use Rattle.refusal.specs.declared.Cause.{Cause}
 use Rattle.refusal.specs.declared.Cause.the-variants.{Range}
 use Rattle.source.specs.declared.operator.Operator.{Operator}
-use Rattle.target.specs.declared.row.Sort.{Sort}
 use Rattle.target.specs.declared.row.Sort.the-variants as sort
 use Rattle.target.specs.declared.row.Row.{Row}
 use Rattle.target.specs.Tables.{laid}
 use Rattle.target.specs.Soundness.{Takes, sortAt, Sound}
 use Rattle.target.proofs.Laying.{length-laid, laid-three}
 use Rattle.scheme.specs.Refusing.{causeOf}
-use Rattle.scheme.specs.Stated.{Adds, Means, Stated, Sized}
+use Rattle.scheme.specs.Stated.{Adds, Means, Stated}
 use Rattle.scheme.proofs.Fits.{Fit, fit, free}
 use Rattle.scheme.proofs.Lasts.{same-sort}
 use Rattle.rows.specs.declared.operands.Operands.{Operands}
 use Rattle.rows.specs.Operands.{withThird}
-use Rattle.rows.specs.Rows.{registerRows, rowsOf, andRows}
+use Rattle.rows.specs.Rows.{registerRows, rowsOf, image, andRows}
 use Rattle.rows.specs.Counts.{hasAnd, ownCount}
 use Rattle.rows.specs.Limits.{usable}
 use Rattle.rows.specs.Law.{AndMeans}
@@ -33,7 +32,6 @@ use Rattle.rows.specs.Ands.{andCount, andCause, AndAppended}
 use Rattle.rows.proofs.Appending.{sorts, same-sorts, in-use}
 use Rattle.rows.proofs.Counting.{own-length, own-third, and-length}
 use Rattle.rows.proofs.AndLaw.{and-means}
-use Rattle.rows.proofs.RegisterLaw.{register-means}
 
 never : {A : Type 0} (o : Option A) (x : A) → o ≡ None → o ≡ Some x → ⊥
 never o x p q = let z : _≡_ {A = ℕ} 0 1 = cc in omega arith
@@ -98,8 +96,8 @@ module _ (size : ℕ) (adds : Adds) (op : Operator) (o : Operands) (before : Lis
         two-length : length two ≡ length before
         two-length = ap length (st .table) ∙ length-laid one (at + 6) (st .new) (omega (arith, st .long, scheme-fit .room)) ∙ one-length
 
-        pub own-room : at + (6 + size) + length (rowsOf op (withThird o at) (at + (6 + size))) ≤ length two
-        own-room = omega (arith, two-length, all-fit .room, own-length op (withThird o at) (at + (6 + size)), own-third op o at)
+        pub own-room : at + (6 + size) + ownCount op (withThird o at) ≤ length two
+        own-room = omega (arith, two-length, all-fit .room, own-third op o at)
 
         module _ (last : three ≡ laid two (at + (6 + size)) (rowsOf op (withThird o at) (at + (6 + size)))) where
           abbrev new : List Row
@@ -172,15 +170,19 @@ module _ (size : ℕ) (adds : Adds) (op : Operator) (o : Operands) (before : Lis
       rows-are : rowsOf op told (at + (6 + n)) ≡ rowsOf op (withThird o at) (at + (6 + size))
       rows-are = ap (λ (t : Operands). rowsOf op t (at + (6 + n))) told-is ∙ ap (rowsOf op (withThird o at)) there
 
+      image-is : image op told (at + (6 + n)) ≡ image op (withThird o at) (at + (6 + size))
+      image-is = ap (λ (t : Operands). image op t (at + (6 + n))) told-is ∙ ap (image op (withThird o at)) there
+
       pub told-usable : usable op told ≡ true
       told-usable = ap (usable op) told-is ∙ can
 
-      pub told-room : at + (6 + n) + length (rowsOf op told (at + (6 + n))) ≤ length two
-      told-room = omega (arith, there, ap length rows-are, own-room size adds op o before at has can none one wrote two two answer st)
+      pub told-room : at + (6 + n) + ownCount op told ≤ length two
+      told-room = omega (arith, there, ap (ownCount op) told-is, own-room size adds op o before at has can none one wrote two two answer st)
 
-      pub told-appended : (three : List Row) → three ≡ laid two (at + (6 + n)) (rowsOf op told (at + (6 + n))) →
-          (andCause op o size before at ≡ None) × AndAppended size adds op o before three at answer
-      told-appended three last =
+      pub told-appended : (three : List Row) (i : ℕ) → three ≡ laid two (at + (6 + n)) (rowsOf op told (at + (6 + n))) → i ≡ image op told (at + (6 + n)) →
+          (andCause op o size before at ≡ None) × (i ≡ image op (withThird o at) (at + (6 + size))) × AndAppended size adds op o before three at answer
+      told-appended three i last ends-in =
           (cause-is size adds op o before at has can ∙ none,
+           ends-in ∙ image-is,
            and-appended size adds op o before at has can none one wrote two three answer st
              (last ∙ ap (λ (t : List Row). laid two (at + (6 + n)) t) rows-are ∙ ap (λ t. laid two t (rowsOf op (withThird o at) (at + (6 + size)))) there))

@@ -1,11 +1,11 @@
 -- The law of bvand, bvor and bvxor, with the rows of any and-scheme.
-use mathlib.Core.Path.{_≡_, refl, sym, _∙_, ap, subst}
-use mathlib.Core.Bool.{Bool, true, false}
+use mathlib.Core.Path.{_≡_, refl, sym, _∙_, ap}
+use mathlib.Core.Bool.{Bool, true}
 use mathlib.Core.List.{List, _++_}
 use Prim.Native.Nat.{ℕ, _+_, _^_, _<_, _≤_}
 use native.Mathlib.Omega.{arith}
 use lib.Bits.{bitAnd, and-lt}
-use lib.Dec.{eqb, ltb, leb}
+use lib.Dec.{eqb}
 use lib.IntN.{ℤ, pos, negsuc}
 use lib.ListN.{length, length-append}
 use Rattle.std.proofs.shelf.Tests.{ltb-true, lt-ltb, eqb-true, eq-eqb, false≢true}
@@ -25,7 +25,7 @@ use Rattle.rows.specs.declared.operands.Operands.{Operands}
 use Rattle.rows.specs.Operands.{withThird}
 use Rattle.rows.specs.Rows.{registerRows, rowsOf, image}
 use Rattle.rows.specs.Counts.{hasAnd}
-use Rattle.rows.specs.Law.{shown, shownSort, inRange, Suited, Given, Anded, Appends, RegisterMeans, OrderMeans, AndMeans}
+use Rattle.rows.specs.Law.{shown, shownSort, inRange, Suited, Given, Appends, RegisterMeans, OrderMeans, AndMeans}
 use Rattle.rows.proofs.Takens.{Known}
 use Rattle.rows.proofs.Appending.{same-sorts, keeps-values, appends-then}
 use Rattle.rows.proofs.RegisterLaw.{register-means}

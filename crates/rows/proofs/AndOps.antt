@@ -1,6 +1,6 @@
 -- The operators that have an and-unknown: what holds of bvand, bvor and bvxor holds of each of them.
 use mathlib.Core.Path.{_≡_, refl, sym, _∙_, ap}
-use mathlib.Core.Bool.{Bool, true, false}
+use mathlib.Core.Bool.{true}
 use mathlib.Core.List.{List}
 use Prim.Native.Nat.{ℕ}
 use lib.Dec.{leb}
@@ -17,7 +17,7 @@ use Rattle.target.specs.Values.{Val}
 use Rattle.target.specs.Soundness.{Takes}
 use Rattle.rows.specs.declared.operands.Operands.{Operands}
 use Rattle.rows.specs.Counts.{hasAnd}
-use Rattle.rows.specs.Law.{shownSort, Fitting, Given}
+use Rattle.rows.specs.Law.{Fitting, Given}
 use Rattle.rows.proofs.Takens.{Known, two-of}
 
 module _ (P : Operator → Type 0) (x : P BvAnd) (y : P BvOr) (z : P BvXor) where

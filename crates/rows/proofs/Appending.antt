@@ -1,22 +1,21 @@
 -- Rows appended to a table.
-use mathlib.Core.Path.{_≡_, refl, sym, _∙_, ap}
+use mathlib.Core.Path.{_≡_, sym, _∙_, ap}
 use mathlib.Core.List.{List, _++_}
 use Prim.Native.Nat.{ℕ, _+_, _<_, _≤_}
 use native.Mathlib.Omega.{arith}
 use lib.IntN.{ℤ}
-use lib.ListN.{length, getD, take, length-append}
+use lib.ListN.{length, take, length-append}
 use Rattle.std.proofs.shelf.Lists.{take-at, take-all, getD-append-left}
-use Rattle.target.specs.declared.row.Sort.{Sort}
 use Rattle.target.specs.declared.row.Row.{Row}
 use Rattle.target.specs.declared.row.Row.the-variants.{Unknown}
 use Rattle.target.specs.Sorts.{sortOf}
 use Rattle.target.specs.Tables.{laid}
 use Rattle.target.specs.Values.{Reading, valueAt}
 use Rattle.target.specs.Meaning.{unknowns, values}
-use Rattle.target.specs.Soundness.{RowSound, Takes, sortAt, Sound}
+use Rattle.target.specs.Soundness.{RowSound, sortAt}
 use Rattle.target.proofs.Laying.{take-laid}
 use Rattle.target.proofs.Values.{value-same}
-use Rattle.target.proofs.Blocks.{Each, Stands, HasSort, Obeys, stands-after, sound-join, block-obeys, unknowns-++}
+use Rattle.target.proofs.Blocks.{Each, Stands, HasSort, stands-after, sound-join, unknowns-++}
 use Rattle.rows.specs.Law.{Appends}
 
 module _ (front new : List Row) (at : ℕ) (len : length front ≡ at) where

@@ -2,21 +2,19 @@
 use mathlib.Core.Path.{_≡_, refl, sym, _∙_, ap}
 use mathlib.Core.List.{List, [], _∷_, _++_}
 use mathlib.Core.Bool.{Bool, true, false, cond}
-use Prim.Native.Nat.{ℕ, zero, suc, _+_, _-_, _<_, _≤_}
+use Prim.Native.Nat.{ℕ, zero, suc, _+_, _<_, _≤_}
 use native.Mathlib.Omega.{arith}
 use lib.Dec.{lit<, eqb, ltb}
 use lib.IntN.{ℤ, pos}
 use lib.ListN.{length, length-append}
 use Rattle.std.proofs.shelf.Tests.{cond-false, le-ltb}
 use Rattle.std.proofs.shelf.Ways.{tells}
-use Rattle.target.specs.declared.row.Sort.{Sort}
 use Rattle.target.specs.declared.row.Sort.the-variants as sort
 use Rattle.target.specs.declared.row.Row.{Row}
 use Rattle.target.specs.declared.row.Row.the-variants.{Number, Equal, Choose}
 use Rattle.target.specs.Values.{Val, int, bool, Reading, valueAt}
 use Rattle.target.specs.Meaning.{rowValue}
-use Rattle.target.specs.Soundness.{RowSound, Takes}
-use Rattle.target.proofs.Blocks.{Each, Obeys, HasSort, all-each, each-front, each-back, each-join, unknowns-++}
+use Rattle.target.proofs.Blocks.{Each, Obeys, each-front, each-back}
 use Rattle.rows.specs.Rows.{lastOr, amountRows, shiftRows}
 use Rattle.rows.proofs.Ends.{Ends, last-is}
 use Rattle.rows.proofs.Shifting.{length-amount}

@@ -1,7 +1,6 @@
 -- The image of each comparison and of the bitwise operations.
-use mathlib.Core.Path.{_≡_, refl, sym, _∙_, ap}
+use mathlib.Core.Path.{_≡_, _∙_, ap}
 use mathlib.Core.List.{List, [], _∷_, _++_}
-use mathlib.Core.Bool.{Bool}
 use Prim.Native.Nat.{ℕ, _+_, _-_, _*_, _%_, _^_, _<_, _≤_}
 use native.Mathlib.Nat.{mod-eq-of-lt}
 use native.Mathlib.Omega.{arith}
@@ -9,7 +8,6 @@ use lib.Bits.{bitAnd, bitOr, bitXor, and-lt, xor-lt}
 use lib.Dec.{lit<, ltb, leb}
 use lib.IntN.{ℤ, pos, _-ℤ_}
 use lib.Pow.{pow-pos}
-use lib.Signed.{ltZ, leZ}
 use Rattle.source.specs.declared.operator.Operator.the-variants.{BvOr, BvXor, BvUlt, BvUle, BvUgt, BvUge, BvSlt, BvSle, BvSgt, BvSge}
 use Rattle.source.specs.Numbers.{signed, signedLess, signedAtMost}
 use Rattle.target.specs.declared.row.Row.{Row}

@@ -1,7 +1,7 @@
 -- How long the rows of an order are.
-use mathlib.Core.Path.{_≡_, refl, sym, _∙_, ap}
+use mathlib.Core.Path.{_≡_, refl, sym, _∙_}
 use mathlib.Core.Bool.{Bool, true, false, cond}
-use mathlib.Core.List.{List, [], _∷_, _++_}
+use mathlib.Core.List.{List, [], _∷_}
 use Prim.Native.Nat.{ℕ, zero, suc, _+_, _-_, _*_, _/_, _^_}
 use native.Mathlib.Numerals.{add-one}
 use native.Mathlib.Omega.{arith}
@@ -12,8 +12,8 @@ use Rattle.source.specs.declared.operator.Operator.{Operator}
 use Rattle.source.specs.declared.operator.Operator.the-variants.{BvNot, BvNeg, BvAdd, BvSub, BvMul, BvUdiv, BvUrem, Extract, Concat, BvAnd, BvOr, BvXor, BvLshr, BvShl, BvUlt, BvUle, BvUgt, BvUge, BvSlt, BvSle, BvSgt, BvSge, Equal, Not, And, Or, Ite, Implies}
 use Rattle.target.specs.declared.row.Row.{Row}
 use Rattle.target.specs.declared.row.Row.the-variants.{Number, Rem}
-use Rattle.rows.specs.Rows.{top, unless, amountRows, shiftRows, rightRows, leftRows, rowsOf, andRows, registerRows}
-use Rattle.rows.specs.Counts.{leftCount, ownCount, rowCount, hasAnd, RowsCounted}
+use Rattle.rows.specs.Rows.{top, unless, amountRows, shiftRows, rightRows, leftRows, rowsOf, andRows}
+use Rattle.rows.specs.Counts.{leftCount, ownCount, hasAnd, RowsCounted}
 use Rattle.rows.specs.declared.operands.Operands.{Operands}
 use Rattle.rows.specs.Operands.{withThird}
 use Rattle.rows.proofs.Shifting.{length-amount}

@@ -1,5 +1,5 @@
 -- What a call answers that grants where two tests hold.
-use mathlib.Core.Path.{_≡_, sym, _∙_, ap}
+use mathlib.Core.Path.{_≡_, sym}
 use mathlib.Core.Bool.{Bool, true, false, cond, _&&_}
 use Rattle.std.proofs.shelf.Tests.{and-from, and-left, and-right, cond-true, cond-false}
 

@@ -1,6 +1,6 @@
 -- The law of the rows of an operator.
-use mathlib.Core.Path.{_≡_, refl, sym, _∙_, ap, subst}
-use mathlib.Core.Bool.{Bool, true}
+use mathlib.Core.Path.{_≡_, sym, _∙_, ap, subst}
+use mathlib.Core.Bool.{true}
 use mathlib.Core.List.{List, _++_}
 use Prim.Native.Nat.{ℕ, _+_, _≤_}
 use native.Mathlib.Omega.{arith}
@@ -10,13 +10,11 @@ use Rattle.std.proofs.shelf.Lists.{length-take-le}
 use Rattle.std.proofs.shelf.Tests.{cond-true}
 use Rattle.source.specs.declared.operator.Operator.{Operator}
 use Rattle.source.specs.declared.value.Value.{Value}
-use Rattle.source.specs.declared.value.Value.the-variants as value
 use Rattle.source.specs.Values.{taken, given, valueOf}
-use Rattle.target.specs.declared.row.Sort.{Sort}
 use Rattle.target.specs.declared.row.Row.{Row}
 use Rattle.target.specs.Tables.{laid}
-use Rattle.target.specs.Values.{Val, Reading, valueAt}
-use Rattle.target.specs.Meaning.{unknowns, values}
+use Rattle.target.specs.Values.{Reading, valueAt}
+use Rattle.target.specs.Meaning.{values}
 use Rattle.target.specs.Soundness.{RowSound, sortAt}
 use Rattle.target.proofs.Blocks.{Each, block-obeys}
 use Rattle.rows.specs.declared.operands.Operands.{Operands}

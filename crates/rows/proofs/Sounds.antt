@@ -2,7 +2,7 @@
 use mathlib.Core.Path.{_≡_, refl, sym, _∙_, ap}
 use mathlib.Core.List.{List, [], _∷_, _++_}
 use mathlib.Core.Bool.{Bool, true, false, cond}
-use Prim.Native.Nat.{ℕ, zero, suc, _+_, _-_, _*_, _/_, _^_, _<_, _≤_}
+use Prim.Native.Nat.{ℕ, zero, suc, _+_, _-_, _*_, _/_, _^_, _≤_}
 use native.Mathlib.Omega.{arith}
 use lib.Dec.{lit<, leb, ltb}
 use lib.ListN.{length}
@@ -10,10 +10,9 @@ use Rattle.std.proofs.shelf.Tests.{cond-both}
 use Rattle.target.specs.declared.row.Sort.{Sort}
 use Rattle.target.specs.declared.row.Sort.the-variants as sort
 use Rattle.target.specs.declared.row.Row.{Row}
-use Rattle.target.specs.declared.row.Row.the-variants.{Number, Add, Sub, Times, Quot, Rem, Equal, Less, AtMost, Not, And, Or, Choose}
+use Rattle.target.specs.declared.row.Row.the-variants.{Number, Add, Sub, Times, Quot, Rem, Equal, Not, And, Or, Choose}
 use Rattle.target.specs.Soundness.{RowSound, Takes}
-use Rattle.target.specs.Meaning.{unknowns}
-use Rattle.target.proofs.Blocks.{Each, All, HasSort, all-each, each-front, each-back, each-join, unknowns-++}
+use Rattle.target.proofs.Blocks.{Each, All, HasSort, all-each, each-front, each-back, each-join}
 use Rattle.rows.specs.declared.operands.Operands.{Operands}
 use Rattle.source.specs.declared.operator.Operator as op
 use Rattle.source.specs.declared.operator.Operator.{Operator}

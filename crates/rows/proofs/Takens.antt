@@ -1,9 +1,8 @@
 -- What is known of operands that an operator takes: one lemma for each shape.
-use mathlib.Core.Path.{_≡_, refl, sym, _∙_, ap}
+use mathlib.Core.Path.{_≡_, refl, sym, _∙_}
 use mathlib.Core.List.{List}
 use mathlib.Core.Bool.{Bool, true, false, cond, _&&_}
 use Prim.Native.Nat.{ℕ, _^_, _<_, _≤_}
-use native.Mathlib.Omega.{arith}
 use lib.Dec.{eqb, ltb, leb}
 use lib.IntN.{pos}
 use Rattle.std.proofs.shelf.Tests.{and-parts, false≢true, ltb-true, leb-true, eqb-true}
@@ -11,9 +10,9 @@ use Rattle.source.specs.declared.order.Sort as source-sort
 use Rattle.source.specs.declared.value.Value.{Value}
 use Rattle.source.specs.declared.value.Value.the-variants as value
 use Rattle.source.specs.Widths.{isWidth}
-use Rattle.source.specs.Sorts.{isBits, isBool, alike, widthOf, fits, one-bits, two-bits, any-bits, one-truth, two-truths, two-alike, choice}
+use Rattle.source.specs.Sorts.{isBits, isBool, alike, widthOf, fits, one-bits, two-bits, any-bits, two-truths, two-alike, choice}
 use Rattle.source.specs.Values.{sortOf, isValue, numberOf, truthOf, bitsOf, areValues}
-use Rattle.target.specs.Values.{Val, int, bool, same, truth, valueAt}
+use Rattle.target.specs.Values.{Val, int, bool, same, valueAt}
 use Rattle.rows.specs.declared.operands.Range.{Range}
 use Rattle.rows.specs.declared.operands.Operands.{Operands}
 use Rattle.rows.specs.Law.{shown, Operand}

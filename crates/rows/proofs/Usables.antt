@@ -1,6 +1,6 @@
 -- What is known of operands that rows can be made for.
 use mathlib.Core.Path.{_≡_}
-use mathlib.Core.Bool.{Bool, true, _&&_}
+use mathlib.Core.Bool.{true}
 use Prim.Native.Nat.{ℕ, _≤_}
 use lib.Dec.{leb}
 use Rattle.std.proofs.shelf.Tests.{and-parts, leb-true}

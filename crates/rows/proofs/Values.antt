@@ -1,17 +1,17 @@
 -- The image of every operator has the SMT-LIB value.
 use mathlib.Core.Path.{_≡_, refl, sym, _∙_, ap}
-use mathlib.Core.List.{List, [], _∷_}
-use mathlib.Core.Bool.{Bool, true, _&&_}
-use Prim.Native.Nat.{ℕ, _+_, _≤_}
-use lib.Dec.{lit<, leb, ltb}
-use lib.IntN.{ℤ, pos}
+use mathlib.Core.List.{List}
+use mathlib.Core.Bool.{true}
+use Prim.Native.Nat.{ℕ}
+use lib.Dec.{lit<}
+use lib.IntN.{ℤ}
 use Rattle.source.specs.declared.operator.Operator as op
 use Rattle.source.specs.declared.operator.Operator.{Operator}
 use Rattle.source.specs.declared.operator.Operator.the-variants.{BvNot, BvNeg, BvAdd, BvSub, BvMul, BvUdiv, BvUrem, Extract, Concat, BvAnd, BvOr, BvXor, BvLshr, BvShl, BvUlt, BvUle, BvUgt, BvUge, BvSlt, BvSle, BvSgt, BvSge, Ite, Implies}
 use Rattle.source.specs.declared.value.Value.{Value}
-use Rattle.source.specs.Sorts.{widthOf, inBounds}
+use Rattle.source.specs.Sorts.{inBounds}
 use Rattle.source.specs.Values.{sortOf, numberOf, truthOf, taken, given}
-use Rattle.target.specs.Values.{Val, int, bool, Reading, valueAt}
+use Rattle.target.specs.Values.{Val, bool, Reading}
 use Rattle.target.specs.Meaning.{rowValue}
 use Rattle.rows.specs.declared.operands.Operands.{Operands}
 use Rattle.rows.specs.Rows.{rowsOf}

@@ -1,19 +1,19 @@
 -- Whole numbers: the facts that the rows rest on.
 use mathlib.Core.Path.{_≡_, refl, sym, _∙_, ap}
 use mathlib.Core.Bool.{Bool, true, false, cond}
-use Prim.Native.Nat.{ℕ, zero, suc, _+_, _-_, _*_, _/_, _%_, _^_, _<_, _≤_}
+use Prim.Native.Nat.{ℕ, suc, _+_, _-_, _*_, _/_, _%_, _^_, _<_, _≤_}
 use native.Mathlib.Nat.{mod-eq-of-lt, mod-add-mod, add-mod-right, mod-eq-sub-mod, div-mul-le-self, div-eq-of-lt, two-pow-succ, mul-mod-left, mul-assoc}
 use native.Mathlib.Omega.{arith}
 use lib.Bits.{bitAnd, bitOr, bitXor, and-lt, or-lt, or-add-and, xor-add-and}
-use lib.Dec.{eqb, ltb, leb}
-use lib.IntN.{ℤ, pos, negsuc, _+ℤ_, _-ℤ_}
-use lib.Pow.{pow-pos, pow-mono}
+use lib.Dec.{eqb, ltb}
+use lib.IntN.{ℤ, pos, negsuc, _-ℤ_}
+use lib.Pow.{pow-mono}
 use Rattle.std.specs.Numbers.{remEuclid}
 use Rattle.std.proofs.shelf.Bits.{le-div, pow-add}
 use Rattle.std.proofs.shelf.Signed.{ints, remEuclid-is}
 use Rattle.std.proofs.shelf.Tests.{ne-eqb, cond-both, ltb-true, ltb-false}
 use Rattle.source.specs.Numbers.{signed}
-use Rattle.target.specs.Values.{Val, int, Reading}
+use Rattle.target.specs.Values.{int, Reading}
 use Rattle.target.specs.Division.{quot, rem, quotPos, remPos}
 
 -- division by a number above 0 is the same under every reading

@@ -17,7 +17,9 @@ use Rattle.target.specs.Tables.{laid}
 use Rattle.scheme.specs.Refusing.{causeOf}
 use Rattle.scheme.specs.Stated.{Adds}
 use Rattle.rows.specs.declared.operands.Operands.{Operands}
-use Rattle.rows.specs.Rows.{registerRows, andRows}
+use Rattle.rows.specs.declared.ands.Anded.{Anded}
+use Rattle.rows.specs.Operands.{withThird}
+use Rattle.rows.specs.Rows.{registerRows, image, andRows}
 use Rattle.rows.specs.Counts.{hasAnd, ownCount}
 use Rattle.rows.specs.Limits.{usable}
 use Rattle.rows.specs.Law.{AndMeans}
@@ -44,8 +46,9 @@ pub record AndAppended (size : ℕ) (adds : Adds) (op : Operator) (o : Operands)
   pub high : answer < at + (6 + size)
   pub means : AndMeans op o (take at before) at new (take (at + andCount op o size) after) answer
 
-abbrev pub AndOutcome : ℕ → Adds → Operator → Operands → List Row → List Row → ℕ → Result ℕ Refusal → Type 0
-AndOutcome size adds op o before after at (Ok answer) =
-    (andCause op o size before at ≡ None) × AndAppended size adds op o before after at answer
+-- what a call leaves: granted, all rows and where the order stands; refused, the first cause and the table as it was
+abbrev pub AndOutcome : ℕ → Adds → Operator → Operands → List Row → List Row → ℕ → Result Anded Refusal → Type 0
+AndOutcome size adds op o before after at (Ok r) =
+    (andCause op o size before at ≡ None) × (r .image ≡ image op (withThird o at) (at + (6 + size))) × AndAppended size adds op o before after at (r .answer)
 AndOutcome size adds op o before after at (Err refusal) =
     (andCause op o size before at ≡ Some (refusal .cause)) × (refusal .at ≡ at) × (after ≡ before)

@@ -26,7 +26,7 @@ use Rattle.target.specs.Soundness.{Takes, sortAt, Sound}
 use Rattle.rows.specs.declared.operands.Range.{Range}
 use Rattle.rows.specs.declared.operands.Operands.{Operands}
 use Rattle.rows.specs.Operands.{withThird}
-use Rattle.rows.specs.Rows.{rowsOf, image, andRows}
+use Rattle.rows.specs.Rows.{image}
 use Rattle.rows.specs.Counts.{hasAnd}
 
 -- Rows appended to the rows in use: so many unknowns more, no earlier value changed, and a sound table still sound.

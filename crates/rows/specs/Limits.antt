@@ -1,6 +1,5 @@
 -- Which operands rows can be made for.
 use mathlib.Core.Bool.{Bool, _&&_}
-use Prim.Native.Nat.{ℕ}
 use lib.Dec.{leb}
 use Rattle.source.specs.Widths.{isWidth}
 use Rattle.source.specs.Sorts.{inBounds}

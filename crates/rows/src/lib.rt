@@ -19,11 +19,3 @@ mod shift;
 mod write;
 pub mod order;
 pub mod ands;
-
-
-
-
-
-
-
-

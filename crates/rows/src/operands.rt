@@ -29,7 +29,7 @@ pub struct Operands {
 
 impl Operands {
     // The same operands with another image of the third.
-    pub fn with_third(self, c: usize) -> Operands
+    pub(crate) fn with_third(self, c: usize) -> Operands
         ensures { λ r. ⌜ r ≡ withThird self c ⌝ }
     {
         Operands { a: self.a, b: self.b, c, k: self.k, j: self.j, sort: self.sort, left: self.left, right: self.right }

@@ -1,7 +1,7 @@
 // The rows of an operator.
 ghost use mathlib.Core.Bool.{true, cond, _&&_};
 ghost use mathlib.Core.Path.{_≡_};
-ghost use Prim.Native.Nat.{ℕ, _+_, _≤_};
+ghost use Prim.Native.Nat.{_+_, _≤_};
 ghost use lib.Dec.{leb};
 ghost use lib.ListN.{length, take};
 ghost use Rattle.std.specs.Options.{isSome};
@@ -19,7 +19,7 @@ use source::operator::Operator;
 use target::row::Row;
 
 // Writes the rows of an operator, for which there is room, and answers the image.
-fn put_order(rows: &mut [Row], at: usize, op: Operator, o: Operands) -> usize
+pub(crate) fn put_order(rows: &mut [Row], at: usize, op: Operator, o: Operands) -> usize
     requires limits { ⌜ usable op o ≡ true ⌝ }
     requires room { ⌜ at + ownCount op o ≤ length (now rows) ⌝ }
     ensures table { λ _. ⌜ now (rows .exit) ≡ laid (now (rows .entry)) at (rowsOf op o at) ⌝ }

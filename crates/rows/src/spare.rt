@@ -1,6 +1,6 @@
 // Which rows can be left out, by what is known of the operands.
 ghost use mathlib.Core.Path.{_≡_};
-ghost use Prim.Native.Nat.{_+_, _-_, _*_, _/_, _^_, _<_, _≤_};
+ghost use Prim.Native.Nat.{_-_, _*_, _/_, _^_, _<_, _≤_};
 ghost use lib.Dec.{leb, ltb};
 ghost use Rattle.rows.specs.Rows.{top};
 

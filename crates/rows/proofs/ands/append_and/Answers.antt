@@ -20,8 +20,8 @@ add-at-2 g c = omega (arith, told-limit (g .S·Scheme .size (c .args .scheme .no
       (sym (c .has-and .ensures) ∙ c .if-not-has-and .left) (sym (c .is-usable .ensures) ∙ c .if-not-is-usable .left) (c .size-at-size .result) (c .own-count .result)
       (c .size-at-size .ensures) (c .own-count .ensures .0) (sym (c .cause-of .ensures) ∙ c .in-rest .is))
 
-pub write-rows-requires : need.write-rows-requires
-write-rows-requires g c κs = record {
+pub put-order-image-requires : need.put-order-image-requires
+put-order-image-requires g c κs = record {
     limits = told-usable (g .S·Scheme .size (c .args .scheme .now) (c .args .o .k)) (g .S·Scheme .adds (c .args .scheme .now)) (c .args .op) (c .args .o) (c .args .rows .now) (c .args .at)
       (sym (c .has-and .ensures) ∙ c .if-not-has-and .left) (sym (c .is-usable .ensures) ∙ c .if-not-is-usable .left) (c .size-at-size .result) (c .own-count .result)
       (c .size-at-size .ensures) (c .own-count .ensures .0) (sym (c .cause-of .ensures) ∙ c .in-rest .is)
@@ -37,4 +37,4 @@ returns g c =
       (sym (c .has-and .ensures) ∙ c .if-not-has-and .left) (sym (c .is-usable .ensures) ∙ c .if-not-is-usable .left) (c .size-at-size .result) (c .own-count .result)
       (c .size-at-size .ensures) (c .own-count .ensures .0) (sym (c .cause-of .ensures) ∙ c .in-rest .is)
       (c .write-register .last .rows) (c .write-register .ensures) (c .state .last .rows) (c .in-Continue-answer .answer) (c .in-Continue-answer .ensures tt .1) (c .with-third .result) (c .with-third .ensures)
-      (c .write-rows .last .rows) (c .write-rows .ensures .table)
+      (c .put-order-image .last .rows) (c .put-order-image .result) (c .put-order-image .ensures .table) (c .put-order-image .ensures .last)

@@ -1,4 +1,3 @@
-use native.Mathlib.Omega.{arith}
 use Rattle.rows.specs.Moves.{movedBy}
 use Rattle.rows.proofs.Shifting.{amount-laid, amount-next}
 use Rattle.rows.proofs.shift.put_amount.Needs as need

@@ -2,7 +2,7 @@ use mathlib.Core.Path.{refl}
 use Prim.Native.Nat.{_-_}
 use native.Mathlib.Omega.{arith}
 use Rattle.rows.specs.Moves.{movedBy}
-use Rattle.rows.proofs.Shifting.{Rest, rest-room, rest-more, rest-none}
+use Rattle.rows.proofs.Shifting.{rest-room, rest-more, rest-none}
 use Rattle.rows.proofs.shift.put_shift.Needs as need
 
 pub loop-i-holds : need.loop-i-holds
