@@ -25,7 +25,8 @@ use Rattle.source.specs.declared.order.Act.the-variants.{Declare, Constant, Tru
 use Rattle.source.specs.declared.order.Order.{Order}
 use Rattle.workbook.specs.Pages.{Pages}
 use Rattle.workbook.specs.Room.{Long, shortOf, fullFor}
-use Rattle.workbook.specs.Declare.{Outcome, registerRows, withRegister, registerCause, registered, answered, entered, unlessShort}
+use Rattle.rows.specs.Rows.{registerRows}
+use Rattle.workbook.specs.Declare.{Outcome, withRegister, registerCause, registered, answered, entered, unlessShort}
 use Rattle.workbook.specs.Feed.{followed, enteredAll}
 
 -- no cause: the test failed, and there is none after it

@@ -1,7 +1,6 @@
 -- A register is entered.
 use mathlib.Core.Bool.{cond}
-use mathlib.Core.List.{List, [], _∷_}
-use Prim.Native.Nat.{ℕ, _+_, _^_}
+use Prim.Native.Nat.{ℕ, _+_}
 use lib.ListN.{set}
 use Rattle.std.specs.declared.option.Option.{Option}
 use Rattle.std.specs.declared.option.Option.the-variants.{Some, None}
@@ -16,15 +15,9 @@ use Rattle.source.specs.declared.order.Act.the-variants.{Declare, Constant, Tru
 use Rattle.source.specs.declared.order.Sort.the-variants.{Bits}
 use Rattle.target.specs.Tables.{laid}
 use Rattle.target.specs.declared.assertion.Kind as kinds
-use Rattle.target.specs.declared.row.Row.{Row}
-use Rattle.target.specs.declared.row.Row.the-variants.{Unknown, Number, AtMost, Less, And}
+use Rattle.rows.specs.Rows.{registerRows}
 use Rattle.workbook.specs.Pages.{Pages}
 use Rattle.workbook.specs.Room.{shortOf, fullFor}
-
--- an unknown at the index `at`, and that it lies from 0 to below 2 ^ k
-abbrev pub registerRows : ℕ → ℕ → List Row
-registerRows k at =
-    Unknown ∷ Number 0 ∷ Number (2 ^ k) ∷ AtMost (at + 1) at ∷ Less at (at + 2) ∷ And (at + 3) (at + 4) ∷ []
 
 -- what a call answers, and the workbook with its tables after it
 abbrev pub Outcome : Type 0 → Type 0

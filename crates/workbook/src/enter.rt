@@ -6,18 +6,17 @@ ghost use lib.ListN.{length};
 ghost use Rattle.std.specs.declared.option.Option.the-variants.{None};
 ghost use Rattle.workbook.specs.Pages.{pagesIn};
 ghost use Rattle.workbook.specs.Room.{shortOf, fullFor};
-ghost use Rattle.workbook.specs.Declare.{registerRows, withRegister, registered, entered};
+ghost use Rattle.workbook.specs.Declare.{withRegister, registered, entered};
 ghost use Rattle.workbook.specs.Feed.{enteredAll};
 ghost use Rattle.workbook.specs.Held.{SameTables};
 use crate::book::Open;
 use crate::tables::Tables;
 use keeper::keeper::Keeper;
 use refusal::{Cause, Refusal};
+use rows::register::append_register;
 use source::order::{Act, Order, Sort, Source};
 use source::width::Width;
 use target::assertion::{Assertion, Kind};
-use target::row::Row;
-use target::table::lay;
 
 // The limits to which tables are used.
 const SOURCES: usize = 1024;
@@ -53,21 +52,6 @@ fn full<R>(book: &Open, t: &Tables<'_, R>, rows: usize, assertions: usize) -> Op
     None
 }
 
-// The rows of a register whose unknown is the target row `at`.
-fn register_rows(width: Width, at: usize) -> [Row; 6]
-    requires { ⌜ at ≤ 32768 ⌝ }
-    ensures { λ r. ⌜ r ≡ registerRows (width .bits) at ⌝ }
-{
-    [
-        Row::Unknown,
-        Row::Number(0),
-        Row::Number(1u64 << width.bits()),
-        Row::AtMost(at + 1, at),
-        Row::Less(at, at + 2),
-        Row::And(at + 3, at + 4),
-    ]
-}
-
 // Enters a register, for which there is room.
 fn put_register<K: Keeper>(book: &mut Open, keeper: &K, t: &mut Tables<'_, K::Record>, width: Width)
     requires { ⌜ fullFor (pagesIn (now book) (now t)) 6 1 ≡ None ⌝ }
@@ -78,7 +62,7 @@ fn put_register<K: Keeper>(book: &mut Open, keeper: &K, t: &mut Tables<'_, K::Re
     let bits = width.bits();
     t.sources[counts.sources] = Source { act: Act::Declare(bits), sort: Sort::Bits(bits), image: counts.rows };
     t.records[counts.sources] = keeper.anything(width);
-    let _ = lay(t.rows, counts.rows, &register_rows(width, counts.rows));
+    let _ = append_register(t.rows, counts.rows, bits);
     t.assertions[counts.assertions] = Assertion { row: counts.rows + 5, source: counts.sources, kind: Kind::Range };
     book.advance(6, 1);
 }
