@@ -2,17 +2,12 @@
 //
 // Everything that matters is in `translate::answer::answer`, whose contract says what is printed and whether
 // the script was granted; here the bytes are only read and written. A refusal ends with status 1.
-use std::alloc::AllocError;
+#![tactic(auto)]
+
 use std::io;
 use std::io::{Read, Write};
+use std::process::ExitCode;
 use translate::answer::answer;
-
-// Why the program ends with status 1. A refused script has had its line printed.
-#[derive(Drop)]
-enum Stop {
-    Refused,
-    Broken,
-}
 
 // One byte more than a script may have, so that a longer one shows.
 const ENOUGH: u64 = 16385;
@@ -26,13 +21,13 @@ fn run(rt: &HostRuntime) -> io::Result<bool> {
     Ok(granted)
 }
 
-fn main(rt: HostRuntime) -> Result<(), Stop> {
+fn main(rt: HostRuntime) -> ExitCode {
     match run(&rt) {
-        Ok(true) => Ok(()),
-        Ok(false) => Err(Stop::Refused),
+        Ok(true) => ExitCode::SUCCESS,
+        Ok(false) => ExitCode::FAILURE,
         Err(e) => {
             let _ = eprintln!(rt; "blast: {e}");
-            Err(Stop::Broken)
+            ExitCode::FAILURE
         }
     }
 }

@@ -8,6 +8,8 @@
 //
 // The code above this layer is written once, for every keeper. There are two: plain knows only widths, and
 // interval knows a least and a most number.
+#![tactic(auto)]
+
 pub mod interval;
 pub mod keeper;
 pub mod largest;

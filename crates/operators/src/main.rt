@@ -10,6 +10,8 @@
 //
 // Its value is printed in the same form; a line of no such form gives `?`. The lines and the expected values
 // are made by tests/operators.py, which asks a solver.
+#![tactic(auto)]
+
 mod line;
 
 use line::value;

@@ -2,6 +2,8 @@
 //
 // Every refusal of the product is one of these causes with one number beside it: a byte place of the
 // script, a count of rows, or a row. What that number is stands in the contract of the call that refuses.
+#![tactic(auto)]
+
 ghost use Rattle.std.specs.Prelude.{◌≡◌};
 ghost use Rattle.refusal.specs.Causes.{number_of, layer_of, word_of};
 

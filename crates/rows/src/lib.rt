@@ -9,6 +9,8 @@
 //
 // The calls here append exactly those rows at an index of a table and write nothing else. They take every input:
 // where there is no room or an argument is outside its limits, they say so and leave the table as it was.
+#![tactic(auto)]
+
 pub mod ands;
 pub mod count;
 pub mod limits;

@@ -1,5 +1,7 @@
 // Prints the rows of every operator at widths 1, 4 and 32, with several bounds, and those of bvand, bvor and bvxor
 // with both and-schemes. The expected output is made by tests/rows.py, from the table of rows and not from this code.
+#![tactic(auto)]
+
 mod cases;
 
 use cases::{OPERATORS, operands};

@@ -5,6 +5,8 @@
 // `scheme::Scheme` is what every and-scheme owes for every input, and all that its callers know of it. `sum::Sum`
 // adds up the bits of the and and compares once; `bitwise::Bitwise` compares bit by bit; `either::Either` is one
 // of two schemes, so that a list of calls can mix them. The other modules have what schemes are made of.
+#![tactic(auto)]
+
 pub mod bitwise;
 pub mod cause;
 pub mod either;

@@ -4,6 +4,8 @@
 // the grammar, and then leaves its orders and its names in two tables; any other it refuses with a cause
 // and a place, and both tables are blank. Every function here answers for every input, and each answer is
 // the one that a definition on the bytes gives.
+#![tactic(auto)]
+
 mod bytes;
 pub mod command;
 mod declaration;

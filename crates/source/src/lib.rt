@@ -3,6 +3,8 @@
 // An order adds one row to the source or requires one. This layer has the widths and sorts of the rows,
 // the operators with the SMT-LIB value of each, and the orders as they stand in a plain list, each with its
 // place in the script it was read from.
+#![tactic(auto)]
+
 pub mod apply;
 mod arithmetic;
 mod bitwise;

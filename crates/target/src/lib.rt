@@ -7,6 +7,8 @@
 // says what division by 0 gives, and a number for each unknown. `laws::meaning_stands` has what holds of it:
 // rows that are appended change no earlier value, a row's value is its operation on its operands' values,
 // division is Euclid's, and in a sound table every value is of its row's sort.
+#![tactic(auto)]
+
 pub mod assertion;
 pub mod laws;
 pub mod row;

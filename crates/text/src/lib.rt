@@ -10,6 +10,8 @@
 // within the limits. What a call does not write, it leaves as it was.
 //
 // `write_refusal` writes the line for a refusal, as `refused 7 at 17 in order`.
+#![tactic(auto)]
+
 mod body;
 pub mod line;
 mod lines;

@@ -1,5 +1,7 @@
 // A caller of any and-scheme, which knows nothing of it but the interface: two ands in a row, and the and of both
 // answers. That its promise is proved shows that the interface says enough for callers to build on.
+#![tactic(auto)]
+
 ghost use Rattle.std.specs.Prelude.{◌≡◌, ◌+◌, ◌≤◌, length};
 ghost use Rattle.target.specs.Tables.{laid};
 ghost use Rattle.twice.specs.Both.{Outcome};

@@ -2,6 +2,8 @@
 //
 // Standard input has one script a line: pieces in hexadecimal between spaces, `HEX*N` being a piece N times.
 // The scripts and the expected output are made by tests/reference.py, an independent reading of the rules.
+#![tactic(auto)]
+
 mod decode;
 
 use decode::decode;

@@ -5,7 +5,7 @@ use Rattle.keeper.proofs.rules.common.Goals as goal
 
 pub returns : goal.returns
 returns c =
-    let e = c.numbers-between.ensures.made ∙ ap (between c.args.width.bits 0) c.min.ensures in
+    let e = c.numbers_between.ensures.made ∙ ap (between c.args.width.bits 0) c.min.ensures in
     record {
       made = e;
       ends = λ w. ends_of _ c.args.width.bits 0 (min c.args.a.hi c.args.b.hi) e (omega arith)

@@ -5,7 +5,7 @@ use Rattle.keeper.proofs.rules.either.Goals as goal
 
 pub returns : goal.returns
 returns c =
-    let e = c.numbers-between.ensures.made ∙ ap₂ (between c.args.width.bits) c.min.ensures c.max.ensures in
+    let e = c.numbers_between.ensures.made ∙ ap₂ (between c.args.width.bits) c.min.ensures c.max.ensures in
     record {
       made = e;
       ends = λ v w. ends_of _ c.args.width.bits (min c.args.b.lo c.args.c.lo) (max c.args.b.hi c.args.c.hi) e

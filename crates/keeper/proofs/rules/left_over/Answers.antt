@@ -5,6 +5,6 @@ use Rattle.keeper.proofs.rules.left_over.Goals as goal
 pub returns : goal.returns
 returns c =
     record {
-      made = c.numbers-between.ensures.made;
-      ends = λ w. c.numbers-between.ensures.ends (omega arith) (in_width c.args.a c.args.width.bits w);
+      made = c.numbers_between.ensures.made;
+      ends = λ w. c.numbers_between.ensures.ends (omega arith) (in_width c.args.a c.args.width.bits w);
     }

@@ -11,7 +11,7 @@ returns-then-hi-largest c =
 
 pub returns : goal.returns
 returns c =
-    let e = c.all-numbers.ensures
+    let e = c.all_numbers.ensures
     ∙ is_whole c.args.width.bits c.args.lo c.args.hi (elim c.else-lo-hi.branch [
       | else-lo-hi-via-then-lo-hi+else-hi-largest w ↦ no_range_above c.args.width.bits c.args.lo c.args.hi (omega (arith, w.if-hi-largest.false, w.largest.ensures))
       | else-lo-hi-via-else-lo-hi w ↦ no_range_crossed c.args.width.bits c.args.lo c.args.hi w.if-lo-hi.false

@@ -6,9 +6,9 @@ use Rattle.rows.proofs.Counting.{rows_counted}
 use Rattle.rows.proofs.Grants.{granted, first_fails, second_fails}
 use Rattle.rows.proofs.count.row_count.Goals as goal
 
-pub returns-then-not-is-usable : goal.returns-then-not-is-usable
-returns-then-not-is-usable c = record {
-  count = first_fails (usable c.args.op c.args.o) (leb c.args.size 32768) (Some (row_count c.args.op c.args.o c.args.size)) None (sym c.is-usable.ensures ∙ c.if-not-is-usable.true);
+pub returns-then-not-is_usable : goal.returns-then-not-is_usable
+returns-then-not-is_usable c = record {
+  count = first_fails (usable c.args.op c.args.o) (leb c.args.size 32768) (Some (row_count c.args.op c.args.o c.args.size)) None (sym c.is_usable.ensures ∙ c.if-not-is_usable.true);
   length = rows_counted c.args.op c.args.o;
 }
 
@@ -21,8 +21,8 @@ returns-then-size-gt32768 c = record {
 pub returns : goal.returns
 returns c = record {
   count =
-      ap Some c.all-count.ensures
+      ap Some c.all_count.ensures
       ∙ granted (usable c.args.op c.args.o) (leb c.args.size 32768) (Some (row_count c.args.op c.args.o c.args.size)) None
-      (sym c.is-usable.ensures ∙ c.if-not-is-usable.false) (le-leb c.args.size 32768 c.if-size-gt32768.false);
+      (sym c.is_usable.ensures ∙ c.if-not-is_usable.false) (le-leb c.args.size 32768 c.if-size-gt32768.false);
   length = rows_counted c.args.op c.args.o;
 }

@@ -10,14 +10,14 @@ use Rattle.rows.proofs.order.append.Goals as goal
 
 pub returns : goal.returns
 returns c =
-    let can : usable c.args.op c.args.o ≡ true = sym c.is-usable.ensures ∙ c.if-not-is-usable.false in
-    let room : c.args.at + own_count c.args.op c.args.o ≤ length c.args.rows.now = omega (arith, c.own-count-count.ensures.0) in
+    let can : usable c.args.op c.args.o ≡ true = sym c.is_usable.ensures ∙ c.if-not-is_usable.false in
+    let room : c.args.at + own_count c.args.op c.args.o ≤ length c.args.rows.now = omega (arith, c.own_count-count.ensures.0) in
     record {
       answer =
-          ap Some c.put-order.ensures.last
+          ap Some c.put_order.ensures.last
           ∙ granted (usable c.args.op c.args.o) (leb (c.args.at + own_count c.args.op c.args.o) (length c.args.rows.now))
           (Some (image c.args.op c.args.o c.args.at)) None can (le-leb _ _ room);
-      table = c.put-order.ensures.table;
+      table = c.put_order.ensures.table;
       law = λ some.
-          laid_means c.args.op c.args.o c.args.rows.now c.put-order.new.rows c.args.at (usable_width c.args.op c.args.o can).0 room c.put-order.ensures.table;
+          laid_means c.args.op c.args.o c.args.rows.now c.put_order.new.rows c.args.at (usable_width c.args.op c.args.o can).0 room c.put_order.ensures.table;
     }

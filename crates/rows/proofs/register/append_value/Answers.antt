@@ -8,7 +8,7 @@ use Rattle.rows.proofs.register.append_value.Goals as goal
 pub returns : goal.returns
 returns c =
     let table : c.lay.new.rows ≡ laid_if_room c.args.rows.now c.args.at (value_row c.args.v ∷ []) =
-    c.lay.ensures.table ∙ ap (λ (row : Row). laid_if_room c.args.rows.now c.args.at (row ∷ [])) c.value-row.ensures in
+    c.lay.ensures.table ∙ ap (λ (row : Row). laid_if_room c.args.rows.now c.args.at (row ∷ [])) c.value_row.ensures in
     record {
       fits = c.lay.ensures.fits;
       table = table;

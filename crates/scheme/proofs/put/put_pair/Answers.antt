@@ -8,6 +8,6 @@ use Rattle.scheme.proofs.put.put_pair.Goals as goal
 pub returns : goal.returns
 returns c =
     let at = c.args.at in
-    laid_three c.args.rows.now c.put.new.rows c.put-digit.new.rows c.put-digit-2.new.rows at (at + 1) (at + 3)
+    laid_three c.args.rows.now c.put.new.rows c.put_digit.new.rows c.put_digit-2.new.rows at (at + 1) (at + 3)
     (Number _ ∷ []) (digit_rows c.args.a at c.args.two (at + 1)) (digit_rows c.args.b at c.args.two (at + 3))
-    (c.put.ensures ∙ ap (λ (w : ℕ). laid c.args.rows.now at (Number w ∷ [])) c.weight.ensures) c.put-digit.ensures c.put-digit-2.ensures refl refl (omega arith)
+    (c.put.ensures ∙ ap (λ (w : ℕ). laid c.args.rows.now at (Number w ∷ [])) c.weight.ensures) c.put_digit.ensures c.put_digit-2.ensures refl refl (omega arith)

@@ -8,8 +8,8 @@ loop-at-preserved c =
     let e = prefix_len-drop_yes (within c.args.class) c.args.script.now c.loop-at.at 0 (omega arith) (search rules) in
     (omega arith, omega arith)
 
-pub returns-else-in-class : goal.returns-else-in-class
-returns-else-in-class c =
+pub returns-else-in_class : goal.returns-else-in_class
+returns-else-in_class c =
     let e = prefix_len-drop_no (within c.args.class) c.args.script.now c.loop-at.at 0 (omega arith) (search rules) in
     record { value = omega arith; bound = omega arith }
 

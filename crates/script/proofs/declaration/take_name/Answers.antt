@@ -11,8 +11,8 @@ returns-then-names-room c = record {
   room = tt;
   value =
       ap Err c.full.ensures ∙ no_room (texts (token_at c.args.script.now) (text_in c.args.script.now) c.args.names.now) c.args.room (text_in c.args.script.now c.args.span.place c.args.span.after) c.args.span
-      (ap (among reserved_words) (sym c.between-text.ensures) ∙ sym c.if-is-reserved.ensures)
-      (ap (among (texts (token_at c.args.script.now) (text_in c.args.script.now) c.args.names.now)) (sym c.between-text.ensures) ∙ sym c.if-is-taken.ensures)
+      (ap (among reserved_words) (sym c.between-text.ensures) ∙ sym c.if-is_reserved.ensures)
+      (ap (among (texts (token_at c.args.script.now) (text_in c.args.script.now) c.args.names.now)) (sym c.between-text.ensures) ∙ sym c.if-is_taken.ensures)
       (simp length-map c.if-names-room.true);
 }
 
@@ -21,7 +21,7 @@ returns c = record {
   room = c.if-names-room.false;
   value =
       granted (texts (token_at c.args.script.now) (text_in c.args.script.now) c.args.names.now) c.args.room (text_in c.args.script.now c.args.span.place c.args.span.after) c.args.span
-      (ap (among reserved_words) (sym c.between-text.ensures) ∙ sym c.if-is-reserved.ensures)
-      (ap (among (texts (token_at c.args.script.now) (text_in c.args.script.now) c.args.names.now)) (sym c.between-text.ensures) ∙ sym c.if-is-taken.ensures)
+      (ap (among reserved_words) (sym c.between-text.ensures) ∙ sym c.if-is_reserved.ensures)
+      (ap (among (texts (token_at c.args.script.now) (text_in c.args.script.now) c.args.names.now)) (sym c.between-text.ensures) ∙ sym c.if-is_taken.ensures)
       (simp length-map c.if-names-room.false);
 }

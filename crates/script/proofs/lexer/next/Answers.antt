@@ -25,16 +25,16 @@ returns-then-b-eq41 c = record {
   number = tt;
 }
 
-pub returns-then-not-in-class : goal.returns-then-not-in-class
-returns-then-not-in-class c = record {
-  value = ap refused c.off-grammar.ensures ∙ at_other c.args.script.now c.args.from _ c.skip-place.ensures.value (omega arith) c.if-b-eq40.false c.if-b-eq41.false (sym c.if-not-in-class.ensures);
+pub returns-then-not-in_class : goal.returns-then-not-in_class
+returns-then-not-in_class c = record {
+  value = ap refused c.off_grammar.ensures ∙ at_other c.args.script.now c.args.from _ c.skip-place.ensures.value (omega arith) c.if-b-eq40.false c.if-b-eq41.false (sym c.if-not-in_class.ensures);
   bound = tt;
   number = tt;
 }
 
 pub returns : goal.returns
 returns c = record {
-  value = c.atom.ensures.value ∙ at_atom c.args.script.now c.args.from _ c.skip-place.ensures.value (omega arith) c.if-b-eq40.false c.if-b-eq41.false _ c.run-end-after.ensures.value (sym c.if-not-in-class.ensures);
-  bound = IfOk-weaker c.atom.result _ _ (λ l e. record { begins = omega (arith, e.0, c.skip-place.ensures.value); ends = omega (arith, e.0, e.1, c.run-end-after.ensures.value); inside = omega (arith, e.1, c.run-end-after.ensures.bound, c.skip-place.ensures.bound) }) c.atom.ensures.bound;
+  value = c.atom.ensures.value ∙ at_atom c.args.script.now c.args.from _ c.skip-place.ensures.value (omega arith) c.if-b-eq40.false c.if-b-eq41.false _ c.run_end-after.ensures.value (sym c.if-not-in_class.ensures);
+  bound = IfOk-weaker c.atom.result _ _ (λ l e. record { begins = omega (arith, e.0, c.skip-place.ensures.value); ends = omega (arith, e.0, e.1, c.run_end-after.ensures.value); inside = omega (arith, e.1, c.run_end-after.ensures.bound, c.skip-place.ensures.bound) }) c.atom.ensures.bound;
   number = c.atom.ensures.number;
 }

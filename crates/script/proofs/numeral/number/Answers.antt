@@ -7,11 +7,11 @@ use Rattle.script.proofs.numeral.number.Goals as goal
 pub returns-then-value-gt-LARGEST : goal.returns-then-value-gt-LARGEST
 returns-then-value-gt-LARGEST c =
     too_large c.args.text.now (drop (c.loop-d.d-index + 1) c.args.text.now) _ (omega arith)
-    (sym (one_digit c.args.text.now c.loop-d.d-index c.loop-d.value _ c.loop-d-test.true c.saturating-sub.ensures) ∙ c.loop-d.invariant.1)
+    (sym (one_digit c.args.text.now c.loop-d.d-index c.loop-d.value _ c.loop-d-test.true c.saturating_sub.ensures) ∙ c.loop-d.invariant.1)
 
 pub loop-d-preserved : goal.loop-d-preserved
 loop-d-preserved c =
-    (omega arith, sym (one_digit c.args.text.now c.loop-d.d-index c.loop-d.value _ c.loop-d-test.true c.saturating-sub.ensures) ∙ c.loop-d.invariant.1)
+    (omega arith, sym (one_digit c.args.text.now c.loop-d.d-index c.loop-d.value _ c.loop-d-test.true c.saturating_sub.ensures) ∙ c.loop-d.invariant.1)
 
 pub returns : goal.returns
 returns c =

@@ -9,19 +9,19 @@ use Rattle.text.proofs.Tables.{count_is, line_same, over}
 use Rattle.text.proofs.Rooms as rooms
 use Rattle.text.proofs.line.line.Goals as goal
 
-pub put-line-end-requires : goal.put-line-end-requires
-put-line-end-requires c =
+pub put_line-end-requires : goal.put_line-end-requires
+put_line-end-requires c =
     let k : Counts = c.counts-counts.result in
     (lit≤ tt, omega (arith, length-take-le (k.rows - 0) c.args.rows.now (omega arith), length-map (take (k.assertions - 0) c.args.assertions.now) (λ (a : Assertion). a.row), length-take-le (k.assertions - 0) c.args.assertions.now (omega arith)))
 
 pub returns-then-end-buffer : goal.returns-then-end-buffer
 returns-then-end-buffer c =
     let k : Counts = c.args.book.now.counts in
-    let long : c.put-line-end.result ≡ length (the_line k c.args.rows.now c.args.assertions.now c.args.n) =
+    let long : c.put_line-end.result ≡ length (the_line k c.args.rows.now c.args.assertions.now c.args.n) =
     omega (
       arith,
-      ap length (c.put-line-end.ensures.bytes ∙ line_same c.counts-counts.result k c.args.rows.now c.args.assertions.now c.args.n c.counts-counts.ensures),
-      length-take-le c.put-line-end.result c.put-line-end.new.draft (omega arith),
+      ap length (c.put_line-end.ensures.bytes ∙ line_same c.counts-counts.result k c.args.rows.now c.args.assertions.now c.args.n c.counts-counts.ensures),
+      length-take-le c.put_line-end.result c.put_line-end.new.draft (omega arith),
     ) in
     let yes : line_refused k c.args.rows.now c.args.assertions.now c.args.n (length c.args.buffer.now) ≡ true = over k c.args.rows.now c.args.assertions.now c.args.n (length c.args.buffer.now) (omega arith) in
     record {

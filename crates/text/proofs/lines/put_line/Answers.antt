@@ -13,13 +13,13 @@ returns-then-n-eq0 c = record {
 
 pub returns-then-i-rows : goal.returns-then-i-rows
 returns-then-i-rows c = record {
-  bytes = c.put-row.ensures.bytes ∙ sym (line_row c.args.rows.now (named_by c.args.assertions.now) c.args.n (omega arith) c.if-i-rows.true);
+  bytes = c.put_row.ensures.bytes ∙ sym (line_row c.args.rows.now (named_by c.args.assertions.now) c.args.n (omega arith) c.if-i-rows.true);
   most = search rules;
 }
 
 pub returns-then-j-assertions : goal.returns-then-j-assertions
 returns-then-j-assertions c = record {
-  bytes = c.put-assert.ensures.bytes
+  bytes = c.put_assert.ensures.bytes
       ∙ ap assert_line (sym (get_or-map (λ (a : Assertion). a.row) c.args.assertions.now (c.args.n - 1 - length c.args.rows.now) _ 0 c.if-j-assertions.true))
       ∙ sym (line_assert c.args.rows.now (named_by c.args.assertions.now) c.args.n (omega arith) c.if-i-rows.false (omega (arith, length-map c.args.assertions.now (λ (a : Assertion). a.row))));
   most = search rules;

@@ -6,7 +6,7 @@ use Rattle.workbook.proofs.calls.feed.Goals as goal
 pub returns : goal.returns
 returns g c = record {
   outcome = search rules;
-  long = λ ok. after_all (g.K.Keeper.whole c.args.keeper.now) c.args.orders.now (pages_in c.args.book.now c.args.t.now) (pages_in c.enter-all.new.book c.enter-all.new.t) c.enter-all.result
-      (sym c.short.ensures ∙ c.in-default.is) c.enter-all.ensures.outcome;
+  long = λ ok. after_all (g.K.Keeper.whole c.args.keeper.now) c.args.orders.now (pages_in c.args.book.now c.args.t.now) (pages_in c.enter_all.new.book c.enter_all.new.t) c.enter_all.result
+      (sym c.short.ensures ∙ c.in_default.is) c.enter_all.ensures.outcome;
   lent = search rules;
 }

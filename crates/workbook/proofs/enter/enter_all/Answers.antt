@@ -8,17 +8,17 @@ use Rattle.workbook.proofs.enter.enter_all.Goals as goal
 pub loop-order-preserved : goal.loop-order-preserved
 loop-order-preserved g c = (
   all_more (g.K.Keeper.whole c.args.keeper.now) _ _ c.args.orders.now c.loop-order.order-index _
-      c.loop-order-test.true c.in-ok-enter.field-0 c.in-ok-enter.ensures.outcome ∙ c.loop-order.invariant.0,
+      c.loop-order-test.true c.in_ok-enter.field-0 c.in_ok-enter.ensures.outcome ∙ c.loop-order.invariant.0,
   search rules,
 )
 
-pub returns-in-err-enter : goal.returns-in-err-enter
-returns-in-err-enter g c =
-    let p = err_from_is_err_and c.from-residual.result c.from-residual.ensures.1 in
+pub returns-in_err-enter : goal.returns-in_err-enter
+returns-in_err-enter g c =
+    let p = err_from_is_err_and c.from_residual.result c.from_residual.ensures.1 in
     record {
       outcome = rw (p.1, p.2)
           (all_stop (g.K.Keeper.whole c.args.keeper.now) _ _ c.args.orders.now c.loop-order.order-index _
-          c.loop-order-test.true _ c.in-err-enter.ensures.outcome ∙ c.loop-order.invariant.0);
+          c.loop-order-test.true _ c.in_err-enter.ensures.outcome ∙ c.loop-order.invariant.0);
       lent = search rules;
     }
 

@@ -11,9 +11,9 @@ returns c =
     let pair = pair_rows c.args.i s.a s.b s.two at in
     let digit = digit_rows s.c at s.two (at + 5) in
     record {
-      table = laid_three c.args.rows.now c.put-digit.new.rows c.put-both.new.rows c.put.new.rows at (at + 7) (at + 11)
+      table = laid_three c.args.rows.now c.put_digit.new.rows c.put_both.new.rows c.put.new.rows at (at + 7) (at + 11)
           (pair ++ digit) (both_rows (at + 2) (at + 4) s.zero s.one (at + 7)) (Equal (at + 6) (at + 10) ∷ And c.args.former (at + 11) ∷ [])
-          (then_laid c.args.rows.now c.put-pair.new.rows c.put-digit.new.rows at (at + 5) pair digit c.put-pair.ensures c.put-digit.ensures refl (omega arith))
-          c.put-both.ensures c.put.ensures refl refl (omega arith);
+          (then_laid c.args.rows.now c.put_pair.new.rows c.put_digit.new.rows at (at + 5) pair digit c.put_pair.ensures c.put_digit.ensures refl (omega arith))
+          c.put_both.ensures c.put.ensures refl refl (omega arith);
       last = refl;
     }

@@ -4,13 +4,13 @@ use Rattle.scheme.proofs.Owed.{listed_room, listed_stated}
 use Rattle.scheme.proofs.SumOwes.{sum_owes}
 use Rattle.scheme.proofs.sum.SumScheme.state.Goals as goal
 
-pub lay-sum-requires : goal.lay-sum-requires
-lay-sum-requires c =
-    listed_room sum_size sum_rows c.args.rows.now c.args.count c.args.k c.args.a c.args.b c.args.c c.size-at.result
-    c.size-at.ensures (sym c.cause-of.ensures ∙ c.in-default.is)
+pub lay_sum-requires : goal.lay_sum-requires
+lay_sum-requires c =
+    listed_room sum_size sum_rows c.args.rows.now c.args.count c.args.k c.args.a c.args.b c.args.c c.size_at.result
+    c.size_at.ensures (sym c.cause_of.ensures ∙ c.in_default.is)
 
 pub returns : goal.returns
 returns c =
-    listed_stated sum_size sum_rows c.args.rows.now c.args.count c.args.k c.args.a c.args.b c.args.c c.size-at.result
-    c.size-at.ensures (sym c.cause-of.ensures ∙ c.in-default.is) c.lay-sum.new.rows (c.args.count + (11 * c.args.k + 3)) c.lay-sum.result
-    (sum_owes c.args.count c.args.k c.args.a c.args.b c.args.c) (omega arith) c.lay-sum.ensures.table c.lay-sum.ensures.last
+    listed_stated sum_size sum_rows c.args.rows.now c.args.count c.args.k c.args.a c.args.b c.args.c c.size_at.result
+    c.size_at.ensures (sym c.cause_of.ensures ∙ c.in_default.is) c.lay_sum.new.rows (c.args.count + (11 * c.args.k + 3)) c.lay_sum.result
+    (sum_owes c.args.count c.args.k c.args.a c.args.b c.args.c) (omega arith) c.lay_sum.ensures.table c.lay_sum.ensures.last

@@ -9,8 +9,8 @@ returns c =
     let at = c.args.at in
     let s = c.args.self.now in
     record {
-      table = laid_three c.args.rows.now c.put-pair.new.rows c.put-both.new.rows c.put.new.rows at (at + 5) (at + 9)
+      table = laid_three c.args.rows.now c.put_pair.new.rows c.put_both.new.rows c.put.new.rows at (at + 5) (at + 9)
           (pair_rows c.args.i s.a s.b s.two at) (both_rows (at + 2) (at + 4) s.zero s.one (at + 5)) (Times at (at + 8) ∷ Add c.args.former (at + 9) ∷ [])
-          c.put-pair.ensures c.put-both.ensures c.put.ensures refl refl (omega arith);
+          c.put_pair.ensures c.put_both.ensures c.put.ensures refl refl (omega arith);
       last = refl;
     }
