@@ -11,7 +11,7 @@ use source::width::Width;
 
 // The record of an operand. A row that does not stand before this one may be anything.
 fn record_at<K: Keeper>(keeper: &K, before: &[K::Record], width: Width, at: usize) -> K::Record
-    ensures { result ≡ record_at (whole keeper.now) before.now width.bits at }
+    ensures { result ≡ record_at (K.whole keeper.now) before.now width.bits at }
 {
     if at < before.len() {
         before[at]
@@ -22,7 +22,7 @@ fn record_at<K: Keeper>(keeper: &K, before: &[K::Record], width: Width, at: usiz
 
 // The record of a row, from the records of those before it.
 pub fn record_of<K: Keeper>(keeper: &K, before: &[K::Record], entry: Entry) -> K::Record
-    ensures { result ≡ record_of (whole keeper.now) (exact keeper.now) (makes keeper.now) before.now entry }
+    ensures { result ≡ record_of (K.whole keeper.now) (K.exact keeper.now) (K.makes keeper.now) before.now entry }
 {
     match entry {
         Entry::Any(width) => keeper.anything(width),
@@ -38,7 +38,7 @@ pub fn record_of<K: Keeper>(keeper: &K, before: &[K::Record], entry: Entry) -> K
 
 // Writes the record of row i at its place, if there is room.
 fn put<K: Keeper>(keeper: &K, entry: Entry, i: usize, records: &mut [K::Record])
-    ensures { records.new ≡ slice_set records.old i (record_of (whole keeper.now) (exact keeper.now) (makes keeper.now) (take i records.old) entry) }
+    ensures { records.new ≡ slice_set records.old i (record_of (K.whole keeper.now) (K.exact keeper.now) (K.makes keeper.now) (take i records.old) entry) }
 {
     if i < records.len() {
         let r = record_of(keeper, &records[0..i], entry);
@@ -48,8 +48,8 @@ fn put<K: Keeper>(keeper: &K, entry: Entry, i: usize, records: &mut [K::Record])
 
 // Writes the record of each row at its place, as far as there is room.
 pub fn fill<K: Keeper>(keeper: &K, entries: &[Entry], records: &mut [K::Record])
-    ensures outcome { records.new ≡ filled (whole keeper.now) (exact keeper.now) (makes keeper.now) 0 entries.now records.old }
-    ensures sound { (vs : List Value) → Rows vs 0 entries.now → (j : ℕ) (d : K.Record) → j < length entries.now → j < length records.old → Describes (bears keeper.now) (holds keeper.now) (slice_index_or records.new j d) (value_at vs j) }
+    ensures outcome { records.new ≡ filled (K.whole keeper.now) (K.exact keeper.now) (K.makes keeper.now) 0 entries.now records.old }
+    ensures sound { (vs : List Value) → Rows vs 0 entries.now → (j : ℕ) (d : K.Record) → j < length entries.now → j < length records.old → Describes (K.bears keeper.now) (K.holds keeper.now) (slice_index_or records.new j d) (value_at vs j) }
 {
     for (i, entry) in entries.iter().enumerate() {
         put(keeper, *entry, i, records);

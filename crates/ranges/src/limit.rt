@@ -5,15 +5,15 @@ use keeper::keeper::Keeper;
 
 // Whether every number that the record stands for is known to lie below the limit.
 pub fn stays_below<K: Keeper>(keeper: &K, r: K::Record, limit: u64) -> bool
-    ensures answer { result ≡ nat_lt (highest keeper.now r) limit }
-    ensures sound { (n : ℕ) → result ≡ true → holds keeper.now r n → n < limit }
+    ensures answer { result ≡ nat_lt (K.highest keeper.now r) limit }
+    ensures sound { (n : ℕ) → result ≡ true → K.holds keeper.now r n → n < limit }
 {
     keeper.most(r) < limit
 }
 
 // How far the ends of the record lie apart.
 pub fn spread<K: Keeper>(keeper: &K, r: K::Record) -> u64
-    ensures { result ≡ highest keeper.now r - lowest keeper.now r }
+    ensures { result ≡ K.highest keeper.now r - K.lowest keeper.now r }
 {
     keeper.most(r) - keeper.least(r)
 }

@@ -23,7 +23,7 @@ pub fn translate<K: Keeper>(
     keeper: &K,
     t: &mut Tables<'_, K::Record>,
 ) -> Result<Sealed, Refusal>
-    ensures outcome { Left (translation (whole keeper.now) (length orders.old) (length names.old) script.now (pages_at nothing_used t.old)) result t.new }
+    ensures outcome { Left (translation (K.whole keeper.now) (length orders.old) (length names.old) script.now (pages_at nothing_used t.old)) result t.new }
     ensures order_table { orders.new ≡ padded (length orders.old) blank_order (orders_left (read_for (length orders.old) (length names.old) script.now)) }
     ensures name_table { names.new ≡ padded (length names.old) blank_name (names_left (read_for (length orders.old) (length names.old) script.now)) }
     ensures lent { SameTables t.old t.new }

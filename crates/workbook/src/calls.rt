@@ -24,7 +24,7 @@ pub fn declare<K: Keeper>(
     t: &mut Tables<'_, K::Record>,
     bits: u32,
 ) -> Result<usize, Refusal>
-    ensures outcome { (result, pages_in book.new t.new) ≡ declared (whole keeper.now) (pages_in book.old t.old) bits }
+    ensures outcome { (result, pages_in book.new t.new) ≡ declared (K.whole keeper.now) (pages_in book.old t.old) bits }
     ensures long { is_ok result ≡ true → Long (pages_in book.new t.new) }
     ensures lent { SameTables t.old t.new }
 {
@@ -43,7 +43,7 @@ pub fn feed<K: Keeper>(
     t: &mut Tables<'_, K::Record>,
     orders: &[Order],
 ) -> Result<usize, Refusal>
-    ensures outcome { (result, pages_in book.new t.new) ≡ fed (whole keeper.now) (pages_in book.old t.old) orders.now }
+    ensures outcome { (result, pages_in book.new t.new) ≡ fed (K.whole keeper.now) (pages_in book.old t.old) orders.now }
     ensures long { is_ok result ≡ true → Long (pages_in book.new t.new) }
     ensures lent { SameTables t.old t.new }
 {

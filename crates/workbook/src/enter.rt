@@ -56,7 +56,7 @@ fn full<R>(book: &Open, t: &Tables<'_, R>, rows: usize, assertions: usize) -> Op
 // Enters a register, for which there is room.
 fn put_register<K: Keeper>(book: &mut Open, keeper: &K, t: &mut Tables<'_, K::Record>, width: Width)
     requires { full_for (pages_in book.old t.old) 6 1 ≡ None }
-    ensures pages { pages_in book.new t.new ≡ with_register (whole keeper.now) (pages_in book.old t.old) width.bits }
+    ensures pages { pages_in book.new t.new ≡ with_register (K.whole keeper.now) (pages_in book.old t.old) width.bits }
     ensures lent { SameTables t.old t.new }
 {
     let counts = book.counts();
@@ -83,7 +83,7 @@ fn register<K: Keeper>(
     t: &mut Tables<'_, K::Record>,
     bits: u32,
 ) -> Option<Cause>
-    ensures outcome { (result, pages_in book.new t.new) ≡ registered (whole keeper.now) (pages_in book.old t.old) bits }
+    ensures outcome { (result, pages_in book.new t.new) ≡ registered (K.whole keeper.now) (pages_in book.old t.old) bits }
     ensures lent { SameTables t.old t.new }
 {
     let Some(width) = Width::new(bits) else {
@@ -104,7 +104,7 @@ pub(crate) fn enter<K: Keeper>(
     act: Act,
     at: usize,
 ) -> Result<usize, Refusal>
-    ensures outcome { (result, pages_in book.new t.new) ≡ entered (whole keeper.now) at (pages_in book.old t.old) act }
+    ensures outcome { (result, pages_in book.new t.new) ≡ entered (K.whole keeper.now) at (pages_in book.old t.old) act }
     ensures lent { SameTables t.old t.new }
 {
     let cause = match act {
@@ -126,7 +126,7 @@ pub(crate) fn enter_all<K: Keeper>(
     t: &mut Tables<'_, K::Record>,
     orders: &[Order],
 ) -> Result<usize, Refusal>
-    ensures outcome { (result, pages_in book.new t.new) ≡ entered_all (whole keeper.now) orders.now (pages_in book.old t.old) }
+    ensures outcome { (result, pages_in book.new t.new) ≡ entered_all (K.whole keeper.now) orders.now (pages_in book.old t.old) }
     ensures lent { SameTables t.old t.new }
 {
     for order in orders {
