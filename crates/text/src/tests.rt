@@ -34,9 +34,9 @@ fn empty_target(rt: HostRuntime) {
     });
     let mut buffer = [b'.'; 64];
     assert_eq!(rt; line(&book, &[], &[], 0, &mut buffer), Ok(19));
-    assert!(rt; &buffer[0..21] == b"(set-logic QF_NIA)\n..");
+    assert!(rt; &buffer[0..21] == b"(set-logic QF_NIA)\n..".as_slice());
     assert_eq!(rt; line(&book, &[], &[], 1, &mut buffer), Ok(12));
-    assert!(rt; &buffer[0..21] == b"(check-sat)\nF_NIA)\n..");
+    assert!(rt; &buffer[0..21] == b"(check-sat)\nF_NIA)\n..".as_slice());
     assert_eq!(rt; line(&book, &[], &[], 2, &mut buffer), refused);
     assert_eq!(rt; line(&book, &[], &[], 0, &mut buffer[0..63]), refused);
 }
