@@ -1,12 +1,11 @@
 -- The law of bvand, bvor and bvxor, with the rows of any and-scheme.
-use Rattle.std.proofs.Common.{◌≡◌, ℕ, ◌+◌, ◌^◌, ◌<◌, ◌≤◌, Bool, true, eqb, List, ◌++◌, length, ℤ, pos, negsuc, sym, refl, ap, ◌∙◌, arith, length-append}
+use Rattle.std.proofs.Common.{◌≡◌, ℕ, ◌+◌, ◌^◌, ◌<◌, ◌≤◌, true, eqb, List, ◌++◌, length, ℤ, pos, negsuc, sym, refl, ap, ◌∙◌, arith, length-append}
 use lib.Bits.{bit_and, and_lt}
 use Rattle.std.proofs.lemmas.Bool.{ltb-true, lt-ltb, eqb-true, eq-eqb, false≢true}
 use Rattle.source.specs.declared.operator.Operator.{Operator}
 use Rattle.source.specs.declared.order.Sort as source_sort
 use Rattle.source.specs.declared.value.Value.{Value}
 use Rattle.source.specs.Values.{number_of, taken, value_of}
-use Rattle.target.specs.declared.row.Sort.{Sort}
 use Rattle.target.specs.declared.row.Sort.TheVariants as sort
 use Rattle.target.specs.declared.row.Row.{Row}
 use Rattle.target.specs.Values.{Val, int, bool, truth, Reading, value_at}

@@ -4,7 +4,7 @@ use Rattle.std.proofs.lemmas.Bool.{cond_both}
 use Rattle.target.specs.declared.row.Sort.{Sort}
 use Rattle.target.specs.declared.row.Sort.TheVariants as sort
 use Rattle.target.specs.declared.row.Row.{Row}
-use Rattle.target.specs.declared.row.Row.TheVariants.{Number, Add, Sub, Times, Quot, Rem, Equal, Not, And, Or, Choose}
+use Rattle.target.specs.declared.row.Row.TheVariants.{Number, Add, Sub, Times, Quot, Rem, Equal, Choose}
 use Rattle.target.specs.Soundness.{RowSound, Takes}
 use Rattle.target.proofs.Blocks.{Each, All, HasSort, all_each, each_front, each_back, each_join}
 use Rattle.rows.specs.declared.operands.Operands.{Operands}

@@ -1,5 +1,5 @@
 -- Why an and-scheme refuses.
-use Rattle.std.specs.Prelude.{ℕ, ◌+◌, min, Bool, true, false, cond, not, ◌||◌, List, length, Some, None, Option, nat_le, nat_lt}
+use Rattle.std.specs.Prelude.{ℕ, ◌+◌, min, Bool, true, false, cond, ◌||◌, List, length, Some, None, Option, nat_le, nat_lt}
 use Rattle.refusal.specs.declared.Cause as causes
 use Rattle.refusal.specs.declared.Cause.{Cause}
 use Rattle.target.specs.declared.row.Sort as sort

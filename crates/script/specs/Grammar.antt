@@ -1,5 +1,5 @@
 -- The scripts of the grammar, and the tokens that spell them.
-use Rattle.std.specs.Prelude.{◌≡◌, ℕ, ◌+◌, Bool, true, false, List, [], ◌∷◌, ◌++◌, length, drop, codes, slice_index_or}
+use Rattle.std.specs.Prelude.{◌≡◌, ℕ, ◌+◌, false, List, [], ◌∷◌, ◌++◌, length, drop, codes, slice_index_or}
 use Rattle.source.specs.declared.order.Act as acts
 use Rattle.source.specs.declared.order.Order.{Order}
 use Rattle.script.specs.declared.token.Span.{Span}

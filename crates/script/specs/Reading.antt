@@ -1,5 +1,5 @@
 -- What reading a script gives.
-use Rattle.std.specs.Prelude.{ℕ, zero, suc, ◌+◌, ◌-◌, min, Bool, true, false, cond, ◌||◌, List, [], ◌∷◌, ◌++◌, map, length, take, drop, replicate, Ok, Err, codes, Result, nat_le, nat_lt}
+use Rattle.std.specs.Prelude.{ℕ, zero, suc, ◌-◌, min, cond, ◌||◌, List, [], ◌∷◌, ◌++◌, map, length, take, drop, replicate, Ok, Err, codes, Result, nat_le, nat_lt}
 use Rattle.refusal.specs.declared.Cause as causes
 use Rattle.refusal.specs.declared.Refusal.{Refusal}
 use Rattle.source.specs.declared.order.Act as acts
@@ -11,7 +11,7 @@ use Rattle.script.specs.declared.command.Form.TheVariants.{Constant, Function}
 use Rattle.script.specs.declared.command.Keyword.{Keyword}
 use Rattle.script.specs.declared.command.Keyword.TheVariants.{CheckSat, Declare}
 use Rattle.script.specs.declared.command.Declaration.{Declaration}
-use Rattle.script.specs.Tokens.{Tok, Lexing, off_grammar, token_at}
+use Rattle.script.specs.Tokens.{Lexing, token_at}
 use Rattle.script.specs.Words.{reserved_words, among}
 use Rattle.script.specs.Steps.{is_open, is_close, is_end, is_name, is_word, number_in, keyword_in, accept, pick, and_then}
 

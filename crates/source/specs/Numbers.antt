@@ -1,7 +1,6 @@
 -- The bit-vector functions of SMT-LIB's theory FixedSizeBitVectors on numbers. A bit-vector of width k is the
 -- number below 2 ^ k that its bits write; every definition here is the standard's, read as numbers.
 use Rattle.std.specs.Prelude.{ℕ, ◌+◌, ◌-◌, ◌*◌, ◌/◌, ◌%◌, ◌^◌, Bool, cond, ℤ, pos, ◌-ℤ◌, ◌==◌, int_le, int_lt, nat_lt}
-use Rattle.std.specs.Int.Bits.{bit_and, bit_or, bit_xor}
 
 -- the bits turned over
 abbrev pub complement : ℕ → ℕ → ℕ

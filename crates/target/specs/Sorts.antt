@@ -1,5 +1,4 @@
 -- The sort of each row.
-use Rattle.std.specs.Prelude.{ℕ}
 use Rattle.target.specs.declared.row.Sort.{Sort}
 use Rattle.target.specs.declared.row.Sort.TheVariants.{Int, Bool}
 use Rattle.target.specs.declared.row.Row.{Row}

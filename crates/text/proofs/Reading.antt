@@ -1,12 +1,12 @@
 -- A target from its text.
-use Rattle.std.proofs.Common.{◌≡◌, ℕ, zero, suc, ◌+◌, ◌-◌, ◌<◌, ◌≤◌, Bool, true, false, cond, eqb, List, [], ◌∷◌, ◌++◌, map, length, get_or, sym, refl, ap, ◌∙◌, subst, append_assoc, append-nil}
+use Rattle.std.proofs.Common.{◌≡◌, ℕ, Bool, true, false, cond, eqb, List, [], ◌∷◌, ◌++◌, map, length, get_or, sym, refl, ap, ◌∙◌, append_assoc, append-nil}
 use Rattle.std.specs.List.{range_with_len}
 use Rattle.std.proofs.lemmas.List.{map-append, length-map, get_or-map}
 use Rattle.std.proofs.lemmas.List.FromFn.{fill_by_all}
 use Rattle.std.proofs.lemmas.Bool.{both_ways}
 use Rattle.target.specs.declared.row.Row.{Row}
 use Rattle.target.specs.declared.row.Row.TheVariants.{Unknown}
-use Rattle.text.specs.Lines.{lines_of, row_line, row_lines, assert_line, logic_line, check_line}
+use Rattle.text.specs.Lines.{lines_of, row_line, row_lines, assert_line, check_line}
 use Rattle.text.specs.Law.{concat, text_of, StatesNoOther}
 use Rattle.text.proofs.Scan.{ends, none}
 use Rattle.text.proofs.Decode.{Item, row, asserted, other, decode, decode_row, decode_assert, ends_row, ends_assert}

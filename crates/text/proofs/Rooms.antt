@@ -1,5 +1,5 @@
 -- How long a line is.
-use Rattle.std.proofs.Common.{◌≡◌, ℕ, zero, suc, ◌+◌, ◌-◌, ◌^◌, ◌<◌, ◌≤◌, Bool, true, false, cond, ◌⊎◌, List, [], ◌∷◌, ◌++◌, length, get_or, codes, sym, refl, ap, ◌∙◌, inl, inr, arith, lit≤}
+use Rattle.std.proofs.Common.{◌≡◌, ℕ, zero, suc, ◌+◌, ◌-◌, ◌<◌, ◌≤◌, Bool, true, false, cond, List, length, get_or, codes, ap, ◌∙◌, inl, inr, arith, lit≤}
 use Rattle.std.specs.Int.Digits.{digits_of}
 use Rattle.std.proofs.lemmas.Int.Digits.{length-digits_of-le}
 use Rattle.std.proofs.lemmas.List.{length-append, length-map}
@@ -10,7 +10,7 @@ use Rattle.target.specs.declared.row.Sort as sort
 use Rattle.target.specs.declared.row.Sort.{Sort}
 use Rattle.target.specs.Sorts.{sort_of}
 use Rattle.text.specs.Numeral.{numeral}
-use Rattle.text.specs.Lines.{line_of, line_count, line_for, unknown, body_of, defined_line, declared_line, assert_line, pair_text, sort_text, logic_line, check_line}
+use Rattle.text.specs.Lines.{line_of, line_for, unknown, body_of, defined_line, declared_line, assert_line, pair_text, sort_text}
 use Rattle.text.specs.Room.{Small, Room}
 use Rattle.text.proofs.Numerals.{numeral_some, numeral_short}
 use Rattle.text.proofs.Places.{line_logic, line_row, line_assert, line_check}

@@ -1,5 +1,5 @@
 -- The program's own tables in the place of any.
-use Rattle.std.proofs.Common.{◌≡◌, ℕ, Bool, List, length, IfOk, Result, refl}
+use Rattle.std.proofs.Common.{◌≡◌, ℕ, Bool, List, length, IfOk, Result}
 use Rattle.keeper.specs.declared.record.IntervalRecord.{IntervalRecord}
 use Rattle.script.specs.declared.names.Name.{Name}
 use Rattle.source.specs.declared.order.Order.{Order}

@@ -1,5 +1,5 @@
 -- From a reading to a translation.
-use Rattle.std.proofs.Common.{◌≡◌, ℕ, ◌+◌, ◌-◌, ◌≤◌, List, [], ◌∷◌, ◌++◌, length, take, drop, replicate, Some, None, Ok, Err, Option, Result, sym, refl, ap, ◌∙◌, subst, arith}
+use Rattle.std.proofs.Common.{◌≡◌, ℕ, ◌-◌, List, [], ◌∷◌, length, take, drop, replicate, Some, None, Ok, Err, Option, Result, sym, refl, ap, ◌∙◌, arith}
 use Rattle.std.proofs.lemmas.List.{take_at}
 use Rattle.refusal.specs.declared.Cause.{Cause}
 use Rattle.refusal.specs.declared.Refusal.{Refusal}
@@ -7,7 +7,7 @@ use Rattle.source.specs.declared.order.Order.{Order}
 use Rattle.script.specs.Reading.{Read, answer_of, orders_left, blank_order, padded}
 use Rattle.workbook.specs.Pages.{Pages, pages_at, nothing_used}
 use Rattle.workbook.specs.Room.{short_of}
-use Rattle.workbook.specs.Declare.{Outcome, entered, unless_short}
+use Rattle.workbook.specs.Declare.{Outcome, entered}
 use Rattle.workbook.specs.Feed.{followed, entered_all, fed}
 use Rattle.workbook.specs.declared.counts.Counts.{Counts}
 use Rattle.workbook.specs.declared.tables.Tables.{Tables}

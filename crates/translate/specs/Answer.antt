@@ -1,5 +1,5 @@
 -- What the program prints for a script.
-use Rattle.std.specs.Prelude.{◌≡◌, ℕ, Bool, cond, List, [], ◌++◌, length, take, replicate, is_ok, Ok, Err, Result, nat_lt}
+use Rattle.std.specs.Prelude.{◌≡◌, ℕ, Bool, cond, List, ◌++◌, length, take, replicate, is_ok, Ok, Err, Result, nat_lt}
 use Rattle.keeper.specs.Intervals.{whole_interval}
 use Rattle.keeper.specs.declared.record.IntervalRecord.{IntervalRecord}
 use Rattle.script.specs.Reading.{full}

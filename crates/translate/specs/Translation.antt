@@ -2,7 +2,7 @@
 use Rattle.std.specs.Prelude.{◌≡◌, ℕ, List, Ok, Err, Result}
 use Rattle.refusal.specs.declared.Refusal.{Refusal}
 use Rattle.script.specs.Reading.{Read, reading, order_room, name_room}
-use Rattle.workbook.specs.Pages.{Pages, pages_at, nothing_used}
+use Rattle.workbook.specs.Pages.{Pages, pages_at}
 use Rattle.workbook.specs.Room.{Long}
 use Rattle.workbook.specs.Declare.{Outcome}
 use Rattle.workbook.specs.Feed.{fed}

@@ -1,5 +1,5 @@
 -- Tables that are as long as their counts stay so.
-use Rattle.std.proofs.Common.{◌≡◌, ℕ, ◌+◌, ◌<◌, ◌≤◌, min, Bool, true, false, cond, ◌||◌, ltb, leb, List, [], ◌∷◌, ◌++◌, length, take, drop, set, is_ok, Some, None, Ok, Err, Option, Result, sym, refl, ap, ◌∙◌, subst, arith, length-append, length-drop, length-set, length-take, rules, ltb-false, leb-false}
+use Rattle.std.proofs.Common.{◌≡◌, ℕ, ◌+◌, ◌<◌, ◌≤◌, min, Bool, true, false, cond, ◌||◌, ltb, leb, List, [], ◌∷◌, length, Some, None, Ok, Err, Option, Result, sym, refl, subst, arith, length-append, length-drop, length-set, length-take, ltb-false, leb-false}
 use Rattle.std.proofs.lemmas.Bool.{or_parts}
 use Rattle.source.specs.Widths.{is_width}
 use Rattle.target.specs.Tables.{laid}
@@ -13,7 +13,7 @@ use Rattle.source.specs.declared.order.Order.{Order}
 use Rattle.workbook.specs.Pages.{Pages}
 use Rattle.workbook.specs.Room.{Long, short_of, full_for}
 use Rattle.rows.specs.Rows.{register_rows}
-use Rattle.workbook.specs.Declare.{Outcome, with_register, register_cause, registered, answered, entered, unless_short}
+use Rattle.workbook.specs.Declare.{Outcome, with_register, register_cause, answered, entered}
 use Rattle.workbook.specs.Feed.{followed, entered_all}
 
 -- no cause: the test failed, and there is none after it

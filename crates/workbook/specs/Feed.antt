@@ -1,6 +1,5 @@
 -- A list of orders is entered.
-use Rattle.std.specs.Prelude.{ℕ, List, [], ◌∷◌, Ok, Err, Result}
-use Rattle.refusal.specs.declared.Refusal.{Refusal}
+use Rattle.std.specs.Prelude.{ℕ, List, [], ◌∷◌, Ok, Err}
 use Rattle.source.specs.declared.order.Order.{Order}
 use Rattle.workbook.specs.Pages.{Pages}
 use Rattle.workbook.specs.Declare.{Outcome, unless_short, entered}

@@ -1,5 +1,5 @@
 -- Which tables are too short or full.
-use Rattle.std.specs.Prelude.{ℕ, ◌+◌, ◌≤◌, min, Bool, cond, ◌||◌, length, Some, None, Option, nat_le, nat_lt}
+use Rattle.std.specs.Prelude.{ℕ, ◌+◌, ◌≤◌, min, cond, ◌||◌, length, Some, None, Option, nat_le, nat_lt}
 use Rattle.refusal.specs.declared.Cause.{Cause}
 use Rattle.refusal.specs.declared.Cause.TheVariants.{SourcesFull, TargetFull}
 use Rattle.workbook.specs.Pages.{Pages}

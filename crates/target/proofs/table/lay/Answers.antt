@@ -1,4 +1,4 @@
-use Rattle.std.proofs.Common.{length, refl, arith, rules}
+use Rattle.std.proofs.Common.{refl, arith, rules}
 use Rattle.target.proofs.Laying.{laid_part}
 use Rattle.target.proofs.table.lay.Goals as goal
 

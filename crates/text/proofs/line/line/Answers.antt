@@ -1,7 +1,6 @@
-use Rattle.std.proofs.Common.{◌≡◌, ℕ, ◌+◌, ◌-◌, ◌<◌, ◌≤◌, true, map, length, take, Ok, Err, sym, ap, ◌∙◌, arith, lit≤, rules}
-use Rattle.std.proofs.lemmas.List.{length-map, length-take, length-take-le}
-use Rattle.std.proofs.lemmas.Bool.{cond-true, cond-false}
-use Rattle.target.specs.declared.row.Row.{Row}
+use Rattle.std.proofs.Common.{◌≡◌, ◌-◌, true, length, take, Err, sym, ap, ◌∙◌, arith, lit≤}
+use Rattle.std.proofs.lemmas.List.{length-map, length-take-le}
+use Rattle.std.proofs.lemmas.Bool.{cond-true}
 use Rattle.target.specs.declared.assertion.Assertion.{Assertion}
 use Rattle.workbook.specs.declared.counts.Counts.{Counts}
 use Rattle.text.specs.Outcome.{rows_of, asserted_of, the_line, the_refusal, line_refused}

@@ -1,4 +1,4 @@
-use Rattle.std.proofs.Common.{length, replicate, vec_items, refl, ap, ◌∙◌, rules}
+use Rattle.std.proofs.Common.{length, replicate, vec_items, refl, ap, ◌∙◌}
 use Rattle.std.proofs.lemmas.List.{length-replicate}
 use Rattle.keeper.specs.Ext.{interval_ext}
 use Rattle.keeper.specs.Intervals.{whole_interval}

@@ -1,6 +1,6 @@
-use Rattle.std.proofs.Common.{◌≡◌, ℕ, length, Ok, Err, Result, sym, refl, ap, ◌∙◌, subst, rules}
+use Rattle.std.proofs.Common.{length, Err, sym, refl, subst, rules}
 use Rattle.std.proofs.lemmas.Result.{err_from_is_err_and}
-use Rattle.workbook.specs.Pages.{Pages, pages_in, pages_at, nothing_used}
+use Rattle.workbook.specs.Pages.{pages_at, nothing_used}
 use Rattle.workbook.specs.declared.counts.Counts.{Counts}
 use Rattle.translate.specs.Translation.{read_for}
 use Rattle.workbook.specs.Room.{Long}
