@@ -1,3 +1,4 @@
+-- The records of the plain keeper count widths up to 64 bits.
 use Rattle.std.specs.Prelude.{ℕ, ◌^◌, ◌≤◌, min}
 use Rattle.std.proofs.Common.{arith, pow_mono}
 
