@@ -1,7 +1,7 @@
 -- The target rows of every order.
 --
 -- An order's rows stand from the index `at` on. Of the operands `o`, the images are o.a, o.b and o.c, the width of
--- the first is o.k and that of the second o .j, and the numbers of both lie within o .left and o.right.
+-- the first is o.k and that of the second o.j, and the numbers of both lie within o.left and o.right.
 use Rattle.std.specs.Prelude.{ℕ, zero, suc, ◌+◌, ◌-◌, ◌*◌, ◌/◌, ◌^◌, Bool, cond, List, [], ◌∷◌, ◌++◌, length, nat_le, nat_lt}
 use Rattle.source.specs.declared.operator.Operator as op
 use Rattle.source.specs.declared.operator.Operator.{Operator}

@@ -67,4 +67,4 @@ granted bytes = is_ok (answered 1024 256 bytes own_tables).0
 
 -- what was appended to `before` for an outcome: its text or its refusal's line, and which of the two
 abbrev pub Printed : Outcome IntervalRecord → List ℕ → Bool → List ℕ → Type 0
-Printed o before isText after = (isText ≡ is_ok o.0) × (after ≡ before ++ written o)
+Printed o before is_text after = (is_text ≡ is_ok o.0) × (after ≡ before ++ written o)

@@ -47,7 +47,7 @@ fn put(
     out: &mut Vec<u8>,
 ) -> Result<bool, AllocError>
     requires { IfOk outcome (λ book. short book.counts rows.now assertions.now ≡ false) }
-    ensures { IfOk result (λ isText. (isText ≡ is_ok outcome) × (out.new.items ≡ out.old.items ++ line_or_text outcome rows.now assertions.now)) }
+    ensures { IfOk result (λ is_text. (is_text ≡ is_ok outcome) × (out.new.items ≡ out.old.items ++ line_or_text outcome rows.now assertions.now)) }
 {
     match outcome {
         Ok(book) => match write_text(&book, rows, assertions, out) {
@@ -73,7 +73,7 @@ fn answer_on(
     assertions: &mut [Assertion],
     out: &mut Vec<u8>,
 ) -> Result<bool, AllocError>
-    ensures { IfOk result (λ isText. Printed (answered (length orders.old) (length names.old) script.now (begun_on sources.old records.old rows.old assertions.old)) out.old.items isText out.new.items) }
+    ensures { IfOk result (λ is_text. Printed (answered (length orders.old) (length names.old) script.now (begun_on sources.old records.old rows.old assertions.old)) out.old.items is_text out.new.items) }
 {
     let outcome = {
         let mut t = Tables {
@@ -101,7 +101,7 @@ fn table<T: Copy>(heap: Global, x: T, n: usize) -> Result<Vec<T>, AllocError>
 // What the program prints for a script, appended to `out`: the script's text, and then the answer is true, or
 // the line of its refusal. The tables are its own: 2,048 target rows, the others at their limits.
 pub fn answer(heap: Global, script: &[u8], out: &mut Vec<u8>) -> Result<bool, AllocError>
-    ensures printed { IfOk result (λ isText. (isText ≡ granted script.now) × (out.new.items ≡ out.old.items ++ printed script.now)) }
+    ensures printed { IfOk result (λ is_text. (is_text ≡ granted script.now) × (out.new.items ≡ out.old.items ++ printed script.now)) }
 {
     let mut orders = table(
         heap,
