@@ -1,4 +1,7 @@
 // What is tried.
+ghost use Rattle.std.specs.Prelude.{◌≡◌};
+ghost use Rattle.rows_tests.specs.Tried.{largest, between, left_tried, right_tried, tried};
+
 use rows::operands::{Operands, Range};
 use source::operator::Operator;
 use target::row::Sort;
@@ -38,7 +41,9 @@ pub const OPERATORS: [Operator; 32] = [
     Operator::Implies,
 ];
 
-fn top(k: u32) -> u64 {
+fn top(k: u32) -> u64
+    ensures { result ≡ largest k }
+{
     match k {
         1 => 1,
         4 => 15,
@@ -46,26 +51,41 @@ fn top(k: u32) -> u64 {
     }
 }
 
-fn range(least: u64, most: u64) -> Range {
+fn range(least: u64, most: u64) -> Range
+    ensures { result ≡ between least most }
+{
     Range { least, most }
+}
+
+// What is known of the first operand, of numbers up to `most`.
+fn left(most: u64, variant: u8) -> Range
+    ensures { result ≡ left_tried most variant }
+{
+    match variant {
+        1 => range(1, 1),
+        2 => range(most, most),
+        _ => range(0, most),
+    }
+}
+
+// And of the second.
+fn right(most: u64, variant: u8) -> Range
+    ensures { result ≡ right_tried most variant }
+{
+    match variant {
+        0 | 2 => range(0, most),
+        1 => range(1, 1),
+        _ => range(0, 0),
+    }
 }
 
 // Two operands of k bits, the rows 1 and 2, and the row 3. The bounds: nothing is known; both are 1; the first is the
 // greatest number; the second is 0.
-pub fn operands(k: u32, variant: u8) -> Operands {
-    let most = top(k);
-    let left = match variant {
-        0 => range(0, most),
-        1 => range(1, 1),
-        2 => range(most, most),
-        _ => range(0, most),
-    };
-    let right = match variant {
-        0 => range(0, most),
-        1 => range(1, 1),
-        2 => range(0, most),
-        _ => range(0, 0),
-    };
+pub fn operands(k: u32, variant: u8) -> Operands
+    ensures { result ≡ tried k variant }
+{
+    let left = left(top(k), variant);
+    let right = right(top(k), variant);
     let sort = if variant == 0 { Sort::Int } else { Sort::Bool };
     Operands {
         a: 1,

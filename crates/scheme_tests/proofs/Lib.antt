@@ -1,1 +1,5 @@
 pub mod Rowed
+pub mod Places
+pub mod PlacedRows
+pub mod Codes
+pub mod Evaluating

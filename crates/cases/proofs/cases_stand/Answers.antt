@@ -1,8 +1,8 @@
 use mathlib.Core.Path.{refl}
 use Rattle.cases.proofs.cases_stand.Goals as goal
 
-pub returns : goal.returns
-returns c = record {
+pub returns-clause-cases : goal.returns-clause-cases
+returns-clause-cases c = record {
   and = refl;
   or = refl;
   xor = refl;
