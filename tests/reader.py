@@ -1,5 +1,6 @@
 """A second reader of scripts, from docs/SCRIPTS.md, with no look at the proved code: the orders of a script."""
-import re
+import reference
+from reference import NUMERAL, Refused
 
 # name: operand count (None: two or more), and the name of the code
 OPERATORS = {
@@ -15,27 +16,12 @@ RESERVED = set(OPERATORS) | set("extract set-logic declare-const declare-fun ass
 DEPTH, ORDERS, NAMES = 64, 1024, 256
 
 
-class Refused(Exception):
-    def __init__(self, number, place, layer):
-        self.number, self.place, self.layer = number, place, layer
-        super().__init__(f"refused {number} at {place} in {layer}\n")
-
-
-BLANK = re.compile(rb"(?:[ \t\r\n]|;[^\r\n]*)*")
-TOKEN = re.compile(rb"[()]|[!-'*-:<-~]+")
-NUMERAL = re.compile(rb"(?:0|[1-9][0-9]*)\Z")
-CONSTANT = re.compile(rb"#(?:b[01]+|x[0-9A-Fa-f]+)\Z")
-
-
 def is_numeral(text):
     return bool(NUMERAL.match(text)) and len(text) <= 10 and int(text) < 2**32
 
 
-class Tokens:
-    """The tokens of a script, one after another; None is its end."""
-
-    def __init__(self, script):
-        self.script, self.at = script, 0
+class Tokens(reference.Tokens):
+    """The tokens of a script, one after another, with a look ahead; a numeral comes with its place."""
 
     def peek(self):
         was = self.at
@@ -43,38 +29,9 @@ class Tokens:
         self.at = was
         return found
 
-    def next(self):
-        place = BLANK.match(self.script, self.at).end()
-        if place == len(self.script):
-            self.at = place
-            return None, place
-        found = TOKEN.match(self.script, place)
-        if not found:
-            raise Refused(1, place, "text")
-        text = found.group()
-        if text[:1].isdigit() and not is_numeral(text) or text[:1] == b"#" and not CONSTANT.match(text):
-            raise Refused(1, place, "text")
-        self.at = found.end()
-        return text, place
-
-    def want(self, *texts):
-        for text in texts:
-            found, place = self.next()
-            if found != text:
-                raise Refused(1, place, "text")
-        return place
-
-    def name(self):
-        text, place = self.next()
-        if text is None or text in (b"(", b")") or text[:1].isdigit() or text[:1] == b"#":
-            raise Refused(1, place, "text")
-        return text, place
-
     def numeral(self):
-        text, place = self.next()
-        if text is None or not text[:1].isdigit():
-            raise Refused(1, place, "text")
-        return int(text), place
+        _, place = self.peek()
+        return super().numeral(), place
 
 
 class Reader:

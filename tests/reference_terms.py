@@ -1,19 +1,13 @@
 #!/usr/bin/env python3
-"""The cases of the program `vectors`, for when scripts with terms are taken; until then tests/reference.py makes them.
+"""Scripts with terms, which `blast` does not take yet, and the refusals of some, worked out by hand.
 
-    python3 tests/reference_terms.py          writes crates/vectors/stdin and crates/vectors/stdout
+    python3 tests/reference_terms.py          holds tests/translator.py, the second translator, to those refusals
 
-What is expected comes from tests/translator.py, a second translator that was written from docs/. Refusals are also
-worked out by hand below: the table JUDGED has scripts with the place that is told marked, and the second translator
-has to agree with it before anything is written.
-
-stdin has one script a line: pieces in hexadecimal between spaces, `HEX*N` being a piece N times. stdout has, for
-each, a line `case N` and then what `blast` prints.
+The table JUDGED has scripts with the place that is told marked. These scripts join the cases of tests/reference.py when
+`blast` takes asserts, and what is expected then comes from the second translator.
 """
-import os
 import random
 
-from reader import RESERVED
 from scripts import Maker, damaged
 from translator import answer
 
@@ -155,92 +149,6 @@ def judged():
         yield whole[:place] + whole[place + 1 :], f"refused {number} at {place} in {layer}\n"
 
 
-def declared(names, width=b"1", form=b"(declare-const %s (_ BitVec %s))"):
-    return b"(set-logic QF_BV)" + b"".join(form % (n, width) for n in names) + b"(check-sat)"
-
-
-def cases():
-    example = b"(set-logic QF_BV)(declare-const x (_ BitVec 4))(check-sat)"
-    both = b"; a comment\r(set-logic\tQF_BV) \n(declare-fun |a b| () (_ BitVec 8))\r\n(declare-const y1 (_ BitVec 32)) ; end\n(check-sat)\n; last"
-    yield example
-    yield declared([])
-    yield both
-    yield both.replace(b"|a b|", b"|ab|")
-    yield b""
-    # one byte, every one of them
-    for b in range(256):
-        yield bytes([b])
-    # every byte after a name, and in the place of a blank
-    for b in (0, 1, 9, 10, 11, 12, 13, 31, 32, 33, 35, 39, 40, 41, 42, 48, 58, 59, 60, 124, 126, 127, 128, 160, 255):
-        yield example.replace(b"x", b"x" + bytes([b]))
-        yield example.replace(b" (_", bytes([b]) + b"(_")
-        yield example + bytes([b])
-        yield bytes([b]) + example
-    # cut short at every byte
-    for script in (example, both.replace(b"|a b|", b"ab")):
-        for n in range(len(script)):
-            yield script[:n]
-    # comments that never end, carriage returns alone, many blanks
-    yield b";" + example
-    yield b";\r" + example
-    yield example + b";"
-    yield example.replace(b")(", b")\r(")
-    yield example.replace(b" ", b" ; ( \n")
-    yield example.replace(b" ", b" ;\r;\n\t ")
-    # widths
-    for width in b"0 1 2 31 32 33 64 00 007 010 4294967295 4294967296 4294967297 18446744073709551616 1x x #b1 -1 +1 1.0 () 340282366920938463463374607431768211456".split():
-        yield declared([b"x"], width)
-        yield declared([b"x", b"y"], width, b"(declare-fun %s () (_ BitVec %s))")
-    # names
-    for name in sorted(RESERVED):
-        yield declared([name.encode()])
-    for name in b"bvaddx bvad QF_BV BitVec bv5 extract1 |x| x! ~!@$%^&*_-+=<>.?/ a;b 1a #b1 #b #b2 #x #xG #bx #x0g #q # 'a \"a\" tru falsey _1 -".split():
-        yield declared([name])
-        yield declared([name, name])
-    yield declared([b"a", b"b", b"a"])
-    yield declared([b"ab", b"a", b"b", b"abc"])
-    yield declared([b"a", b"A"])
-    # words in the wrong place
-    for word in b"assert push exit set-info declare-constx declare check-sa check-satt ( ) 1 #b1".split():
-        yield example.replace(b"declare-const", word)
-        yield example.replace(b"check-sat", word)
-        yield example.replace(b"set-logic", word)
-        yield example.replace(b"QF_BV", word)
-        yield example.replace(b"BitVec", word)
-        yield example.replace(b"_", word)
-    yield example + b"(check-sat)"
-    yield example + b" x"
-    yield example + example
-    yield b"(set-logic QF_BV)(declare-fun f ((_ BitVec 4)) (_ BitVec 4))(check-sat)"
-    yield b"(set-logic QF_BV)(declare-fun f (_ BitVec 4))(check-sat)"
-    yield b"(set-logic QF_BV)(declare-const x () (_ BitVec 4))(check-sat)"
-    yield b"(set-logic QF_BV)(declare-const x (_ BitVec 0))(declare-const x (_ BitVec 4))(check-sat)"
-    yield b"(set-logic QF_BV)(declare-const x (_ BitVec 4))(declare-const y (_ BitVec 33))(check-sat)"
-    # terms
-    yield from terms()
-    # many registers: 256 names are taken
-    some = [b"r%d" % i for i in range(257)]
-    yield declared(some[:255], b"8")
-    yield declared(some[:256], b"8")
-    yield declared(some[:256], b"8", b"(declare-fun %s () (_ BitVec %s))")
-    yield declared(some[:257], b"8")
-    yield declared(some[:256] + [b"not"], b"8")
-    # long scripts
-    frame = declared([b"\0"]).split(b"\0")
-    for n in (16383, 16384, 16385, 20000):
-        yield (example, 1), (b" ", n - len(example))
-        yield ((b";", n),)
-        yield ((b"(", n),)
-        yield ((b"9", n),)
-        yield (b"#b", 1), (b"1", n - 2)
-        yield (frame[0], 1), (b"n", n - len(frame[0]) - len(frame[1])), (frame[1], 1)
-    # random damage
-    chance = random.Random(1)
-    for _ in range(200):
-        form = chance.choice((b"(declare-fun %s () (_ BitVec %s))", b"(declare-const %s (_ BitVec %s))"))
-        yield damaged(chance, declared([b"a", b"bc"], b"12", form))
-
-
 def terms():
     """Scripts with asserts: every form of a term, limits kept exactly, random ones."""
     every = (
@@ -274,18 +182,14 @@ def terms():
 
 
 def main():
-    for script, told in judged():
-        if answer(script) != told:
-            raise SystemExit(f"{script}: {answer(script)[:60]}, and not {told}")
-    here = os.path.join(os.path.dirname(os.path.abspath(__file__)), "..", "crates", "vectors")
-    scripts = [((case, 1),) if isinstance(case, bytes) else case for case in cases()]
-    with open(os.path.join(here, "stdin"), "w") as out:
-        for pieces in scripts:
-            out.write(" ".join(piece.hex() + (f"*{n}" if n != 1 else "") for piece, n in pieces) + "\n")
-    with open(os.path.join(here, "stdout"), "w") as out:
-        for case, pieces in enumerate(scripts):
-            out.write(f"case {case}\n{answer(b''.join(piece * n for piece, n in pieces))}")
-    print(f"{len(scripts)} cases")
+    told = list(judged())
+    for script, refusal in told:
+        if answer(script) != refusal:
+            raise SystemExit(f"{script}: {answer(script)[:60]}, and not {refusal}")
+    scripts = list(terms())
+    for script in scripts:
+        answer(script)
+    print(f"{len(told)} refusals as worked out by hand, {len(scripts)} scripts answered")
 
 
 if __name__ == "__main__":

@@ -1,4 +1,8 @@
-"""The target rows of every order once more, from docs/ROWS.md and docs/SCHEMES.md, with no look at the proved code."""
+"""The target rows of every order once more, from docs/ROWS.md and docs/SCHEMES.md, with no look at the proved code.
+
+Operands, widths and the first index are free here; of tests/rows.py comes what has them free there too.
+"""
+from rows import reduced, scheme_sum
 
 
 class Rows:
@@ -21,35 +25,6 @@ def register(r, k):
     zero, size = r.number(0), r.number(2**k)
     low, high = r.add("AtMost", zero, x), r.add("Less", x, size)
     return x, r.add("And", low, high)
-
-
-def bits_of_both(r, i, a, b, two):
-    weight = r.number(2**i)
-    return weight, [r.add("Rem", r.add("Quot", x, weight), two) for x in (a, b)]
-
-
-def both(r, bits, zero, one):
-    p, q = r.add("Equal", bits[0], one), r.add("Equal", bits[1], one)
-    return r.add("Choose", "Int", r.add("And", p, q), one, zero)
-
-
-def scheme_sum(r, k, a, b, c):
-    zero, one, two = r.number(0), r.number(1), r.number(2)
-    total = zero
-    for i in range(k):
-        weight, bits = bits_of_both(r, i, a, b, two)
-        total = r.add("Add", total, r.add("Times", weight, both(r, bits, zero, one)))
-    return r.add("Equal", c, total)
-
-
-def scheme_bitwise(r, k, a, b, c):
-    zero, one, two = r.number(0), r.number(1), r.number(2)
-    agree = r.add("Truth", "true")
-    for i in range(k):
-        weight, bits = bits_of_both(r, i, a, b, two)
-        bit = r.add("Rem", r.add("Quot", c, weight), two)
-        agree = r.add("And", agree, r.add("Equal", bit, both(r, bits, zero, one)))
-    return agree
 
 
 def after_and(r, code, k, a, b, c):
@@ -82,10 +57,6 @@ def shift(r, code, k, a, b, most):
 def signed(r, k, a, b):
     half, two = r.number(2 ** (k - 1)), r.number(2)
     return [r.add("Sub", r.add("Times", two, r.add("Rem", x, half)), x) for x in (a, b)]
-
-
-def reduced(r, row, fits, k):
-    return row if fits else r.add("Rem", row, r.number(2**k))
 
 
 def divided(r, code, k, a, b, safe):

@@ -1,12 +1,20 @@
 -- The operands that every operator is tried with: the rows 1, 2 and 3, the first two of k bits.
-use Rattle.std.specs.Prelude.{ℕ, ◌-◌, ◌^◌, cond, ◌==◌, ◌||◌}
-use Rattle.target.specs.declared.row.Sort.TheVariants.{Int, Bool}
+use Rattle.std.specs.Prelude.{ℕ, ◌-◌, ◌^◌, ◌<◌, ◌≤◌, Bool, cond, ◌==◌, ◌||◌}
+use Rattle.target.specs.declared.row.Sort.TheVariants as sort
 use Rattle.rows.specs.declared.operands.Operands.{Operands}
 use Rattle.rows.specs.declared.operands.Range.{Range}
 
 -- the largest number of k bits; a width that is not tried is taken for 32
 abbrev pub largest : ℕ → ℕ
 largest k = cond (k == 1 || k == 4) (2 ^ k - 1) (2 ^ 32 - 1)
+
+-- the widths that are tried
+abbrev pub is_tried : ℕ → Bool
+is_tried k = k == 1 || k == 4 || k == 32
+
+-- bounds of k bits
+abbrev pub Bounds : ℕ → Range → Type 0
+Bounds k r = (r.least ≤ r.most) × (r.most < 2 ^ k)
 
 abbrev pub between : ℕ → ℕ → Range
 between least most = record { least = least; most = most }
@@ -28,7 +36,7 @@ tried k variant = record {
   c = 3;
   k = k;
   j = k;
-  sort = cond (variant == 0) Int Bool;
+  sort = cond (variant == 0) sort.Int sort.Bool;
   left = left_tried (largest k) variant;
   right = right_tried (largest k) variant;
 }

@@ -1,6 +1,6 @@
 // What is tried.
-ghost use Rattle.std.specs.Prelude.{◌≡◌};
-ghost use Rattle.rows_tests.specs.Tried.{largest, between, left_tried, right_tried, tried};
+ghost use Rattle.std.specs.Prelude.{◌≡◌, true};
+ghost use Rattle.rows_tests.specs.Tried.{largest, between, left_tried, right_tried, tried, is_tried, Bounds};
 
 use rows::operands::{Operands, Range};
 use source::operator::Operator;
@@ -82,7 +82,8 @@ fn right(most: u64, variant: u8) -> Range
 // Two operands of k bits, the rows 1 and 2, and the row 3. The bounds: nothing is known; both are 1; the first is the
 // greatest number; the second is 0.
 pub fn operands(k: u32, variant: u8) -> Operands
-    ensures { result ≡ tried k variant }
+    ensures operands { result ≡ tried k variant }
+    ensures bounds { is_tried k ≡ true → Bounds k result.left × Bounds k result.right }
 {
     let left = left(top(k), variant);
     let right = right(top(k), variant);
