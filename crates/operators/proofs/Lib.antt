@@ -1,1 +1,3 @@
+pub mod Splitting
 pub mod Numbers
+pub mod Spelled

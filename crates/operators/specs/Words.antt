@@ -4,6 +4,12 @@ use Rattle.std.specs.List.{before_first, after_first}
 use Rattle.std.specs.Str.{all_ascii_digits}
 use Rattle.std.specs.Str.Parse.{digits_value, without_leading_plus}
 
+abbrev pub space : ℕ
+space = 32
+
+abbrev pub colon : ℕ
+colon = 58
+
 -- what stands before the first separator, or all where there is none
 abbrev pub before : ℕ → List ℕ → List ℕ
 before separator text = before_first (λ b. b == separator) text

@@ -1,8 +1,9 @@
 // A line: an operator and its operands.
-ghost use Rattle.std.specs.Prelude.{◌≡◌, MatchOption};
+ghost use Rattle.std.specs.Prelude.{◌≡◌, List, MatchOption};
 ghost use Rattle.operators.specs.Words.{number_in};
 ghost use Rattle.operators.specs.Names.{operator_named};
-ghost use Rattle.operators.specs.Line.{first_word, rest_of, bits_in, operand_in, operand_or_none, extract_in, operator_in, operands_in, value_at, line_value};
+ghost use Rattle.operators.specs.Line.{first_word, rest_of, bits_in, operand_in, operand_or_none, extract_in, operator_in, operands_in, value_in, line_value};
+ghost use Rattle.operators.specs.Spelling.{spelling, value_at, IsWritable};
 
 use source::apply::apply;
 use source::operator::Operator;
@@ -86,16 +87,14 @@ fn word(line: &str) -> (&str, &str)
 
 // The operator at the line's start, and the rest of the line.
 fn head(line: &str) -> Option<(Operator, &str)>
-    ensures { MatchOption result (operator_in line.now ≡ None) (λ x. (operator_in line.now ≡ Some x.0) × (x.1.now ≡ operands_in line.now)) }
+    ensures { MatchOption result (operator_in line.now ≡ None)
+        (λ x. (operator_in line.now ≡ Some x.0) × (x.1.now ≡ operands_in line.now)) }
 {
     let (name, rest) = word(line);
     if name == "extract" {
         let (upper, after) = word(rest);
         let (lower, operands) = word(after);
-        Some((
-            Operator::Extract(width(upper)?, width(lower)?),
-            operands,
-        ))
+        Some((Operator::Extract(width(upper)?, width(lower)?), operands))
     } else {
         Some((operator(name)?, rest))
     }
@@ -112,11 +111,11 @@ fn operand_or_none(word: &str) -> Option<Value>
     }
 }
 
-pub fn value(line: &str) -> Option<Value>
-    ensures { result ≡ line_value line.now }
+// The value of an operator at the operands of a text: two words, and all that stands behind them.
+fn value_in(op: Operator, text: &str) -> Option<Value>
+    ensures { result ≡ value_in op text.now }
 {
-    let (op, operands) = head(line)?;
-    let (first, rest) = word(operands);
+    let (first, rest) = word(text);
     let (second, third) = word(rest);
     Some(apply(
         op,
@@ -124,4 +123,16 @@ pub fn value(line: &str) -> Option<Value>
         operand_or_none(second)?,
         operand_or_none(third)?,
     ))
+}
+
+// The value of a line; a line of no such form has none.
+pub fn value(line: &str) -> Option<Value>
+    ensures reads { result ≡ line_value line.now }
+
+    // A line that spells an operator and its operands gives its value there.
+    ensures spelled { (op : Operator) (operands : List Value) → IsWritable op operands → line.now ≡ spelling op operands
+        → result ≡ Some (value_at op operands) }
+{
+    let (op, operands) = head(line)?;
+    value_in(op, operands)
 }
