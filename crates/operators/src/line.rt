@@ -1,9 +1,17 @@
 // A line: an operator and its operands.
+ghost use Rattle.std.specs.Prelude.{◌≡◌, List, MatchOption};
+ghost use Rattle.operators.specs.Words.{number_in};
+ghost use Rattle.operators.specs.Names.{operator_named};
+ghost use Rattle.operators.specs.Line.{first_word, rest_of, bits_in, operand_in, operand_or_none, extract_in, operator_in, operands_in, value_in, line_value};
+ghost use Rattle.operators.specs.Spelling.{spelling, value_at, IsWritable};
+
 use source::apply::apply;
 use source::operator::Operator;
 use source::value::Value;
 
-fn operator(name: &str) -> Option<Operator> {
+fn operator(name: &str) -> Option<Operator>
+    ensures { result ≡ operator_named name.now }
+{
     match name {
         "bvnot" => Some(Operator::BvNot),
         "bvneg" => Some(Operator::BvNeg),
@@ -18,12 +26,6 @@ fn operator(name: &str) -> Option<Operator> {
         "bvxor" => Some(Operator::BvXor),
         "bvlshr" => Some(Operator::BvLshr),
         "bvshl" => Some(Operator::BvShl),
-        _ => test(name),
-    }
-}
-
-fn test(name: &str) -> Option<Operator> {
-    match name {
         "bvult" => Some(Operator::BvUlt),
         "bvule" => Some(Operator::BvUle),
         "bvugt" => Some(Operator::BvUgt),
@@ -42,19 +44,41 @@ fn test(name: &str) -> Option<Operator> {
     }
 }
 
-fn operand(word: &str) -> Option<Value> {
+fn width(word: &str) -> Option<u32>
+    ensures { result ≡ number_in 32 word.now }
+{
+    word.parse::<u32>().ok()
+}
+
+fn number(word: &str) -> Option<u64>
+    ensures { result ≡ number_in 64 word.now }
+{
+    word.parse::<u64>().ok()
+}
+
+// K:N, the number N in K bits.
+fn bits(word: &str) -> Option<Value>
+    ensures { result ≡ bits_in word.now }
+{
+    let (k, n) = word.split_once(':')?;
+    Some(Value::Bits(width(k)?, number(n)?))
+}
+
+fn operand(word: &str) -> Option<Value>
+    ensures { result ≡ operand_in word.now }
+{
     match word {
         "true" => Some(Value::Bool(true)),
         "false" => Some(Value::Bool(false)),
-        _ => {
-            let (k, n) = word.split_once(':')?;
-            Some(Value::Bits(k.parse::<u32>().ok()?, n.parse::<u64>().ok()?))
-        }
+        _ => bits(word),
     }
 }
 
 // The first word, and the rest of the line.
-fn word(line: &str) -> (&str, &str) {
+fn word(line: &str) -> (&str, &str)
+    ensures first { result.0.now ≡ first_word line.now }
+    ensures rest { result.1.now ≡ rest_of line.now }
+{
     match line.split_once(' ') {
         Some((first, rest)) => (first, rest),
         None => (line, ""),
@@ -62,22 +86,24 @@ fn word(line: &str) -> (&str, &str) {
 }
 
 // The operator at the line's start, and the rest of the line.
-fn head(line: &str) -> Option<(Operator, &str)> {
+fn head(line: &str) -> Option<(Operator, &str)>
+    ensures { MatchOption result (operator_in line.now ≡ None)
+        (λ x. (operator_in line.now ≡ Some x.0) × (x.1.now ≡ operands_in line.now)) }
+{
     let (name, rest) = word(line);
     if name == "extract" {
         let (upper, after) = word(rest);
         let (lower, operands) = word(after);
-        Some((
-            Operator::Extract(upper.parse::<u32>().ok()?, lower.parse::<u32>().ok()?),
-            operands,
-        ))
+        Some((Operator::Extract(width(upper)?, width(lower)?), operands))
     } else {
         Some((operator(name)?, rest))
     }
 }
 
 // An operand that the line does not have counts as false: no operator looks at it.
-fn operand_or_none(word: &str) -> Option<Value> {
+fn operand_or_none(word: &str) -> Option<Value>
+    ensures { result ≡ operand_or_none word.now }
+{
     if word.is_empty() {
         Some(Value::Bool(false))
     } else {
@@ -85,9 +111,11 @@ fn operand_or_none(word: &str) -> Option<Value> {
     }
 }
 
-pub fn value(line: &str) -> Option<Value> {
-    let (op, operands) = head(line)?;
-    let (first, rest) = word(operands);
+// The value of an operator at the operands of a text: two words, and all that stands behind them.
+fn value_in(op: Operator, text: &str) -> Option<Value>
+    ensures { result ≡ value_in op text.now }
+{
+    let (first, rest) = word(text);
     let (second, third) = word(rest);
     Some(apply(
         op,
@@ -95,4 +123,16 @@ pub fn value(line: &str) -> Option<Value> {
         operand_or_none(second)?,
         operand_or_none(third)?,
     ))
+}
+
+// The value of a line; a line of no such form has none.
+pub fn value(line: &str) -> Option<Value>
+    ensures reads { result ≡ line_value line.now }
+
+    // A line that spells an operator and its operands gives its value there.
+    ensures spelled { (op : Operator) (operands : List Value) → IsWritable op operands → line.now ≡ spelling op operands
+        → result ≡ Some (value_at op operands) }
+{
+    let (op, operands) = head(line)?;
+    value_in(op, operands)
 }
