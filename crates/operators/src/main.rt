@@ -8,8 +8,9 @@
 //     extract 2 1 4:13
 //     ite true 8:1 8:2
 //
-// Its value is printed in the same form; a line of no such form gives `?`. The lines and the expected values
-// are made by tests/operators.py, which asks a solver.
+// Its value is printed in the same form; a line of no such form gives `?`. An operand that is missing, or an empty
+// word in its place, counts as false. The lines and the expected values are made by tests/operators.py, which asks a
+// solver.
 #![tactic(auto)]
 
 mod line;
