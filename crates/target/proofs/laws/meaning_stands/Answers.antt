@@ -11,6 +11,7 @@ use Rattle.target.proofs.laws.meaning_stands.Goals as goal
 
 pub returns : goal.returns
 returns c = record {
+  answer = refl;
   each = length_values;
   keeps = λ reading numbers xs ys.
       ap (take (length xs)) (values-++ reading numbers xs ys)
