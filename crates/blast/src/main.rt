@@ -7,24 +7,26 @@
 use std::io;
 use std::io::{Read, Write};
 use std::process::ExitCode;
-use translate::answer::answer;
+use translate::answer::{BYTES, answer};
 
-// One byte more than a script may have, so that a longer one shows.
-const ENOUGH: u64 = 16385;
+// One byte more than a script may have, so that a longer one shows. (`as`, since no `From` makes a `u64` of a `usize`.)
+const ENOUGH: u64 = BYTES as u64 + 1;
 
-fn run(rt: &HostRuntime) -> io::Result<bool> {
+fn run(rt: &HostRuntime) -> io::Result<ExitCode> {
     let mut script = Vec::new(rt.alloc());
     rt.stdin().take(ENOUGH).read_to_end(&mut script)?;
     let mut out = Vec::new(rt.alloc());
-    let granted = answer(rt.alloc(), &script, &mut out)?;
+    let answered = answer(rt.alloc(), &script, &mut out)?;
     rt.stdout().write_all(&out)?;
-    Ok(granted)
+    Ok(match answered {
+        Ok(()) => ExitCode::SUCCESS,
+        Err(_) => ExitCode::FAILURE,
+    })
 }
 
 fn main(rt: HostRuntime) -> ExitCode {
     match run(&rt) {
-        Ok(true) => ExitCode::SUCCESS,
-        Ok(false) => ExitCode::FAILURE,
+        Ok(status) => status,
         Err(e) => {
             let _ = eprintln!(rt; "blast: {e}");
             ExitCode::FAILURE

@@ -72,5 +72,5 @@ pub record Worked : Type 0 where
   pub fits : rows_of BvAdd (known 8 (constant 200) (constant 55)) 10 ≡ Add 1 2 ∷ []
   pub rolls : rows_of BvAdd (known 8 (constant 200) (constant 56)) 10 ≡ Add 1 2 ∷ Number 256 ∷ Rem 10 11 ∷ []
   -- bvand's rows, by the sum scheme and by the bitwise one
-  pub by_sum : length (and_rows BvAnd any 10 (sum_rows 16 4 1 2 10)) ≡ 54
-  pub by_bits : length (and_rows BvAnd any 10 (bitwise_rows 16 4 1 2 10)) ≡ 62
+  pub by_sum : length (and_rows BvAnd any 10 (sum_rows 16 (record { k = 4; a = 1; b = 2; c = 10 }))) ≡ 54
+  pub by_bits : length (and_rows BvAnd any 10 (bitwise_rows 16 (record { k = 4; a = 1; b = 2; c = 10 }))) ≡ 62

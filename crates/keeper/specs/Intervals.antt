@@ -15,11 +15,14 @@ whole_interval k = record { width = k; lo = 0; hi = 2 ^ k - 1; ok = (zero-le, be
 abbrev pub is_range : ℕ → ℕ → ℕ → Bool
 is_range k lo hi = nat_le lo hi && nat_le hi (2 ^ k - 1)
 
+pub range_parts : (k lo hi : ℕ) → is_range k lo hi ≡ true → (lo ≤ hi) × (hi < 2 ^ k)
+range_parts k lo hi t =
+    let h = and_parts (nat_le lo hi) (nat_le hi (2 ^ k - 1)) t in
+    (leb-true lo hi h.0, omega (arith, leb-true hi (2 ^ k - 1) h.1, pow_pos k))
+
 pub ends_ok : (k lo hi : ℕ) (t : Bool) → is_range k lo hi ≡ t →
     (cond t lo 0 ≤ cond t hi (2 ^ k - 1)) × (cond t hi (2 ^ k - 1) < 2 ^ k)
-ends_ok k lo hi true e =
-    let h = and_parts (nat_le lo hi) (nat_le hi (2 ^ k - 1)) e in
-    (leb-true lo hi h.0, omega (arith, leb-true hi (2 ^ k - 1) h.1, pow_pos k))
+ends_ok k lo hi true e = range_parts k lo hi e
 ends_ok k lo hi false e = (zero-le, below k)
 
 -- the numbers from lo to hi where that is a range of the width, and all numbers of the width where it is not

@@ -2,7 +2,7 @@
 -- answers all numbers of the width where the ends are not both of it, as where a sum may roll over.
 use Rattle.std.specs.Prelude.{ℕ, ◌+◌, ◌-◌, ◌/◌, ◌^◌, min, max, cond, nat_le}
 use Rattle.source.specs.declared.operator.Operator.{Operator}
-use Rattle.source.specs.declared.operator.Operator.TheVariants.{BvNot, BvNeg, BvAdd, BvSub, BvMul, BvUdiv, BvUrem, Extract, Concat, BvAnd, BvOr, BvXor, BvLshr, BvShl, BvUlt, BvUle, BvUgt, BvUge, BvSlt, BvSle, BvSgt, BvSge, Equal, Not, And, Or, Ite, Implies}
+use Rattle.source.specs.declared.operator.Operator.TheVariants.{BvAdd, BvSub, BvUrem, Extract, BvAnd, BvLshr, Ite}
 use Rattle.keeper.specs.Intervals.{between, whole_interval}
 use Rattle.keeper.specs.declared.record.IntervalRecord.{IntervalRecord}
 
@@ -35,24 +35,4 @@ interval_made BvLshr k a b c = rest k a
 interval_made BvUrem k a b c = rest k a
 interval_made (Extract upper lower) k a b c = part_of k lower a
 interval_made Ite k a b c = either_of k b c
-interval_made BvNot k a b c = whole_interval k
-interval_made BvNeg k a b c = whole_interval k
-interval_made BvMul k a b c = whole_interval k
-interval_made BvUdiv k a b c = whole_interval k
-interval_made Concat k a b c = whole_interval k
-interval_made BvOr k a b c = whole_interval k
-interval_made BvXor k a b c = whole_interval k
-interval_made BvShl k a b c = whole_interval k
-interval_made BvUlt k a b c = whole_interval k
-interval_made BvUle k a b c = whole_interval k
-interval_made BvUgt k a b c = whole_interval k
-interval_made BvUge k a b c = whole_interval k
-interval_made BvSlt k a b c = whole_interval k
-interval_made BvSle k a b c = whole_interval k
-interval_made BvSgt k a b c = whole_interval k
-interval_made BvSge k a b c = whole_interval k
-interval_made Equal k a b c = whole_interval k
-interval_made Not k a b c = whole_interval k
-interval_made And k a b c = whole_interval k
-interval_made Or k a b c = whole_interval k
-interval_made Implies k a b c = whole_interval k
+interval_made _ k a b c = whole_interval k

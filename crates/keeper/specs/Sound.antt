@@ -8,15 +8,14 @@ use Rattle.std.proofs.lemmas.Bool.{cond_both}
 use Rattle.source.specs.Sorts.{shape_of, count_of}
 use Rattle.source.specs.Values.{number_of, bits_of, truth_of, taken, given, value_of}
 use Rattle.source.specs.declared.operator.Operator.{Operator}
-use Rattle.source.specs.declared.operator.Operator.TheVariants.{Ite}
+use Rattle.source.specs.declared.operator.Operator.TheVariants.{BvNot, BvNeg, BvAdd, BvSub, BvMul, BvUdiv, BvUrem, Extract, Concat, BvAnd, BvOr, BvXor, BvLshr, BvShl, BvUlt, BvUle, BvUgt, BvUge, BvSlt, BvSle, BvSgt, BvSge, Equal, Not, And, Or, Ite, Implies}
 use Rattle.source.specs.declared.value.Value.{Value}
 use Rattle.keeper.specs.declared.record.IntervalRecord.{IntervalRecord}
 use Rattle.keeper.specs.Descriptions.{Describes}
-use Rattle.keeper.specs.Intervals.{between, whole_interval}
+use Rattle.keeper.specs.Intervals.{between, whole_interval, range_parts}
 use Rattle.keeper.specs.Rules.{sum_of, difference_of, common_of, rest, part_of, either_of, interval_made}
-use Rattle.keeper.specs.Between.{range_parts, in_between}
-use Rattle.keeper.specs.Ruled.{Kind, adds, subtracts, masks, shifts, divides, cuts, chooses, other, kind_of}
-use Rattle.keeper.specs.Results.{value_parts, value_given, given_value, pair_of, remainder_le}
+use Rattle.keeper.specs.Between.{in_between}
+use Rattle.keeper.specs.Results.{first_number, value_given, given_known, remainder_le}
 
 abbrev pub In : IntervalRecord → ℕ → Type 0
 In r n = (r.lo ≤ n) × (n ≤ r.hi)
@@ -74,29 +73,49 @@ in_either k n b c l h = in_between k (min b.lo c.lo) (max b.hi c.hi) n (λ t. h)
 abbrev Held : IntervalRecord → Value → Type 0
 Held r v = Describes {R = IntervalRecord} (λ r. r.width) In r v
 
-held_by : {op : Operator} → Kind op → (a b c : IntervalRecord) (va vb vc : Value) → taken op va vb vc ≡ true → Held a va →
+-- the operators that the keeper has no rule for
+in_any : (op : Operator) (va vb vc : Value) → taken op va vb vc ≡ true → In (whole_interval (bits_of (given op va vb vc))) (number_of (given op va vb vc))
+in_any op va vb vc t = in_whole (bits_of (given op va vb vc)) (number_of (given op va vb vc)) (given_known op va vb vc t).below
+
+held_given : (op : Operator) (a b c : IntervalRecord) (va vb vc : Value) → taken op va vb vc ≡ true → Held a va →
     (2 ≤ count_of (shape_of op) → Held b vb) → (3 ≤ count_of (shape_of op) → Held c vc) →
     In (interval_made op (bits_of (given op va vb vc)) a b c) (number_of (given op va vb vc))
-held_by adds a b c va vb vc t p q r = in_sum (bits_of va) (number_of va) (number_of vb) a b p.1 (q (lit≤ tt)).1
-held_by subtracts a b c va vb vc t p q r =
-    in_difference (bits_of va) (number_of va) (number_of vb) a b (pair_of va vb vc t).first p.1 (q (lit≤ tt)).1
-held_by masks a b c va vb vc t p q r =
-    in_common (bits_of va) (number_of va) (number_of vb) a b (pair_of va vb vc t).first p.1 (q (lit≤ tt)).1
-held_by shifts a b c va vb vc t p q r =
-    in_rest (bits_of va) (number_of va / 2 ^ number_of vb) (number_of va) a (shr_le (number_of va) (number_of vb)) (pair_of va vb vc t).first p.1
-held_by divides a b c va vb vc t p q r =
-    in_rest (bits_of va) _ (number_of va) a (remainder_le (number_of va) (number_of vb)) (pair_of va vb vc t).first p.1
-held_by (cuts u l) a b c va vb vc t p q r = in_part (u - l + 1) l (number_of va) a p.1
-held_by chooses a b c va vb vc t p q r =
-    let below = (value_parts (given Ite va vb vc) (given_value Ite va vb vc t)).1 in
-    in_either (bits_of (given Ite va vb vc)) (number_of (given Ite va vb vc)) b c below
+held_given BvAdd a b c va vb vc t p q r = in_sum (bits_of va) (number_of va) (number_of vb) a b p.1 (q (lit≤ tt)).1
+held_given BvSub a b c va vb vc t p q r =
+    in_difference (bits_of va) (number_of va) (number_of vb) a b (first_number BvSub va vb vc t).below p.1 (q (lit≤ tt)).1
+held_given BvAnd a b c va vb vc t p q r =
+    in_common (bits_of va) (number_of va) (number_of vb) a b (first_number BvAnd va vb vc t).below p.1 (q (lit≤ tt)).1
+held_given BvLshr a b c va vb vc t p q r =
+    in_rest (bits_of va) (number_of va / 2 ^ number_of vb) (number_of va) a (shr_le (number_of va) (number_of vb)) (first_number BvLshr va vb vc t).below p.1
+held_given BvUrem a b c va vb vc t p q r =
+    in_rest (bits_of va) _ (number_of va) a (remainder_le (number_of va) (number_of vb)) (first_number BvUrem va vb vc t).below p.1
+held_given (Extract u l) a b c va vb vc t p q r = in_part (u - l + 1) l (number_of va) a p.1
+held_given Ite a b c va vb vc t p q r =
+    in_either (bits_of (given Ite va vb vc)) (number_of (given Ite va vb vc)) b c (given_known Ite va vb vc t).below
     (cond_both (truth_of va) vb vc (λ v. (min b.lo c.lo ≤ number_of v) × (number_of v ≤ max b.hi c.hi))
     (λ e. (omega (arith, (q (lit≤ tt)).1), omega (arith, (q (lit≤ tt)).1)))
     (λ e. (omega (arith, (r (lit≤ tt)).1), omega (arith, (r (lit≤ tt)).1))))
-held_by {op} (other e) a b c va vb vc t p q r =
-    let below = (value_parts (given op va vb vc) (given_value op va vb vc t)).1 in
-    subst (λ (s : IntervalRecord). In s (number_of (given op va vb vc))) (sym (e (bits_of (given op va vb vc)) a b c))
-    (in_whole (bits_of (given op va vb vc)) (number_of (given op va vb vc)) below)
+held_given BvNot a b c va vb vc t p q r = in_any BvNot va vb vc t
+held_given BvNeg a b c va vb vc t p q r = in_any BvNeg va vb vc t
+held_given BvMul a b c va vb vc t p q r = in_any BvMul va vb vc t
+held_given BvUdiv a b c va vb vc t p q r = in_any BvUdiv va vb vc t
+held_given Concat a b c va vb vc t p q r = in_any Concat va vb vc t
+held_given BvOr a b c va vb vc t p q r = in_any BvOr va vb vc t
+held_given BvXor a b c va vb vc t p q r = in_any BvXor va vb vc t
+held_given BvShl a b c va vb vc t p q r = in_any BvShl va vb vc t
+held_given BvUlt a b c va vb vc t p q r = in_any BvUlt va vb vc t
+held_given BvUle a b c va vb vc t p q r = in_any BvUle va vb vc t
+held_given BvUgt a b c va vb vc t p q r = in_any BvUgt va vb vc t
+held_given BvUge a b c va vb vc t p q r = in_any BvUge va vb vc t
+held_given BvSlt a b c va vb vc t p q r = in_any BvSlt va vb vc t
+held_given BvSle a b c va vb vc t p q r = in_any BvSle va vb vc t
+held_given BvSgt a b c va vb vc t p q r = in_any BvSgt va vb vc t
+held_given BvSge a b c va vb vc t p q r = in_any BvSge va vb vc t
+held_given Equal a b c va vb vc t p q r = in_any Equal va vb vc t
+held_given Not a b c va vb vc t p q r = in_any Not va vb vc t
+held_given And a b c va vb vc t p q r = in_any And va vb vc t
+held_given Or a b c va vb vc t p q r = in_any Or va vb vc t
+held_given Implies a b c va vb vc t p q r = in_any Implies va vb vc t
 
 pub held : (op : Operator) (k : ℕ) (a b c : IntervalRecord) (va vb vc : Value) → taken op va vb vc ≡ true → bits_of (value_of op va vb vc) ≡ k →
     Held a va → (2 ≤ count_of (shape_of op) → Held b vb) → (3 ≤ count_of (shape_of op) → Held c vc) →
@@ -105,4 +124,4 @@ held op k a b c va vb vc t e p q r =
     let g = value_given op va vb vc t in
     subst (λ (v : Value). In (interval_made op k a b c) (number_of v)) (sym g)
     (subst (λ (j : ℕ). In (interval_made op j a b c) (number_of (given op va vb vc))) (sym (ap bits_of g) ∙ e)
-    (held_by (kind_of op) a b c va vb vc t p q r))
+    (held_given op a b c va vb vc t p q r))

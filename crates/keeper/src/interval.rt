@@ -7,13 +7,10 @@ ghost use Rattle.std.proofs.Common.{rules};
 
 use crate::keeper::Keeper;
 use crate::record::IntervalRecord;
-use crate::rules::{
-    all_numbers, common, difference, either, left_over, numbers_between, part, sum,
-};
 use source::operator::Operator;
 use source::width::Width;
 
-#[derive(Clone, Copy)]
+#[derive(Clone, Copy, PartialEq, Eq, Debug)]
 pub struct Interval;
 
 impl Keeper for Interval {
@@ -52,11 +49,11 @@ impl Keeper for Interval {
     ghost makes_holds = { λ keeper. held };
 
     fn anything(&self, width: Width) -> IntervalRecord {
-        all_numbers(width)
+        IntervalRecord::whole(width)
     }
 
     fn exactly(&self, width: Width, n: u64) -> IntervalRecord {
-        numbers_between(width, n, n)
+        IntervalRecord::between(width, n, n)
     }
 
     fn least(&self, r: IntervalRecord) -> u64 {
@@ -67,6 +64,7 @@ impl Keeper for Interval {
         r.hi
     }
 
+    // One arm for each operator that has a rule, since each has its own.
     fn made(
         &self,
         op: Operator,
@@ -76,13 +74,13 @@ impl Keeper for Interval {
         c: IntervalRecord,
     ) -> IntervalRecord {
         match op {
-            Operator::BvAdd => sum(width, a, b),
-            Operator::BvSub => difference(width, a, b),
-            Operator::BvAnd => common(width, a, b),
-            Operator::BvLshr | Operator::BvUrem => left_over(width, a),
-            Operator::Extract(_, lower) => part(width, lower, a),
-            Operator::Ite => either(width, b, c),
-            _ => all_numbers(width),
+            Operator::BvAdd => a.sum(width, b),
+            Operator::BvSub => a.difference(width, b),
+            Operator::BvAnd => a.common(width, b),
+            Operator::BvLshr | Operator::BvUrem => a.left_over(width),
+            Operator::Extract(_, lower) => a.part(width, lower),
+            Operator::Ite => b.either(width, c),
+            _ => IntervalRecord::whole(width),
         }
     }
 }

@@ -7,13 +7,10 @@ use source::width::Width;
 pub fn largest_of_bits(bits: u32) -> u64
     ensures { result ≡ 2 ^ min bits 64 - 1 }
 {
-    if bits < 64 {
-        (1u64 << bits) - 1
-    } else {
-        u64::MAX
-    }
+    1u64.checked_shl(bits).map_or(u64::MAX, |above| above - 1)
 }
 
+// The same of a width. A call of its own, since its clause needs no cap at 64 bits.
 pub fn largest(width: Width) -> u64
     ensures { result ≡ 2 ^ width.bits - 1 }
 {

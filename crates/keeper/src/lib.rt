@@ -15,6 +15,5 @@ pub mod keeper;
 pub mod largest;
 pub mod plain;
 pub mod record;
-pub mod rules;
 #[cfg(test)]
 mod tests;

@@ -1,19 +1,18 @@
 // The plain keeper: knows only widths.
-ghost use Rattle.std.specs.Prelude.{◌≡◌, ℕ, ◌-◌, ◌^◌, ◌<◌, min};
-ghost use Rattle.std.proofs.Common.{zero-le, arith, pow_pos, subst, rules};
-ghost use Rattle.keeper.specs.PlainKeeperLemmas.{capped};
-ghost use Rattle.source.specs.Values.{number_of, bits_of, value_of};
-ghost use Rattle.keeper.specs.Results.{value_known, width_parts};
+ghost use Rattle.std.specs.Prelude.{ℕ, ◌-◌, ◌^◌, ◌<◌, min};
+ghost use Rattle.std.proofs.Common.{rules};
+ghost use Rattle.keeper.specs.PlainKeeperLemmas.{below_width, ends_in_width, made_holds};
 
 use crate::keeper::Keeper;
 use crate::largest::largest_of_bits;
 use source::operator::Operator;
 use source::width::Width;
 
-#[derive(Clone, Copy)]
+#[derive(Clone, Copy, PartialEq, Eq, Debug)]
 pub struct Plain;
 
-#[derive(Clone, Copy)]
+// A bare number and no `Width`, since callers fill tables with records of any width.
+#[derive(Clone, Copy, PartialEq, Eq, Debug)]
 pub struct PlainRecord {
     pub width: u32,
 }
@@ -36,9 +35,9 @@ impl Keeper for Plain {
 
     ghost makes = { λ keeper op k a b c. record { width = k } };
 
-    ghost inside = { λ keeper r n h. omega (arith, capped r.width) };
+    ghost inside = { λ keeper r. below_width r.width };
 
-    ghost bounded = { λ keeper r. (zero-le, omega (arith, capped r.width, pow_pos (min r.width 64))) };
+    ghost bounded = { λ keeper r. ends_in_width r.width };
 
     ghost enclosed = { Prim.search rules };
 
@@ -52,10 +51,7 @@ impl Keeper for Plain {
 
     ghost makes_bears = { Prim.search rules };
 
-    ghost makes_holds = { λ keeper op k a b c va vb vc t e p q s.
-        let h = value_known op va vb vc t in
-        let same : bits_of (value_of op va vb vc) ≡ min k 64 = omega (arith, width_parts (bits_of (value_of op va vb vc)) h.0) in
-        subst (λ (j : ℕ). number_of (value_of op va vb vc) < 2 ^ j) same h.1 };
+    ghost makes_holds = { λ keeper op k a b c va vb vc t e p q s. made_holds op k va vb vc t e };
 
     fn anything(&self, width: Width) -> PlainRecord {
         PlainRecord {

@@ -11,10 +11,11 @@ use Rattle.source.specs.declared.operator.Operator.TheVariants.{Extract}
 use Rattle.source.specs.declared.value.Value.{Value}
 use Rattle.source.specs.declared.value.Value as values
 use Rattle.source.specs.Values.{value_of}
-use Rattle.operators.specs.Words.{space, colon}
+use Rattle.source.specs.Words.{colon}
+use Rattle.source.specs.Text.{and_then, value_text, bits_in}
 use Rattle.operators.specs.Names.{name_of, operator_named}
-use Rattle.operators.specs.Line.{and_then, first_word, rest_of, bits_in, operand_or_none, extract_in, operator_in, operands_in, value_in, line_value}
-use Rattle.operators.specs.Spelling.{operator_words, operand_word, spelling, OperatorFits, OperandFits, IsWritable, operand_at, value_at}
+use Rattle.operators.specs.Line.{space, first_word, rest_of, operand_or_none, extract_in, operator_in, operands_in, value_in, line_value}
+use Rattle.operators.specs.Spelling.{operator_words, spelling, OperatorFits, OperandFits, IsWritable, operand_at, value_at}
 use Rattle.operators.proofs.Splitting.{lacks, lacks-append, before_separator, after_separator, before-join, after-join}
 use Rattle.operators.proofs.Numbers.{decimal_all_digits, lacks_digits, number_in_decimal}
 
@@ -43,14 +44,14 @@ digits_first (d ∷ ds) text h some =
     (rw (ne_eqb d 102 (λ e. true≢false (sym digit ∙ ap is_ascii_digit e))))
 
 -- the word of an operand is read back, and has no space
-operand_back : (v : Value) → OperandFits v → operand_or_none (operand_word v) ≡ Some v
+operand_back : (v : Value) → OperandFits v → operand_or_none (value_text v) ≡ Some v
 operand_back (values.TheVariants.Bool true) h = refl
 operand_back (values.TheVariants.Bool false) h = refl
 operand_back (values.TheVariants.Bits k n) (hk, hn) =
     let small : k < 2 ^ 64 = omega arith in
     digits_first (decimal k) (colon ∷ decimal n) (decimal_all_digits k small) (decimal_nonempty k small) ∙ bits_back k n hk hn
 
-operand_no_space : (v : Value) → OperandFits v → lacks space (operand_word v) ≡ true
+operand_no_space : (v : Value) → OperandFits v → lacks space (value_text v) ≡ true
 operand_no_space (values.TheVariants.Bool true) h = refl
 operand_no_space (values.TheVariants.Bool false) h = refl
 operand_no_space (values.TheVariants.Bits k n) (hk, hn) =
@@ -100,14 +101,14 @@ operands_back op words h = plain_operands (name_of op) words refl refl
 
 -- operands with one space between each two
 abbrev pub operands_text : List Value → List ℕ
-operands_text operands = join_with_byte space (map operand_word operands)
+operands_text operands = join_with_byte space (map value_text operands)
 
 -- the operand that stands first, and the text behind it
 first_back : (v : Value) (others : List Value) → OperandFits v → operand_or_none (first_word (operands_text (v ∷ others))) ≡ Some v
-first_back v others h = ap operand_or_none (before-join space (operand_word v) (map operand_word others) (operand_no_space v h)) ∙ operand_back v h
+first_back v others h = ap operand_or_none (before-join space (value_text v) (map value_text others) (operand_no_space v h)) ∙ operand_back v h
 
 behind_first : (v : Value) (others : List Value) → OperandFits v → rest_of (operands_text (v ∷ others)) ≡ operands_text others
-behind_first v others h = after-join space (operand_word v) (map operand_word others) (operand_no_space v h)
+behind_first v others h = after-join space (value_text v) (map value_text others) (operand_no_space v h)
 
 -- the value at operands that are read one by one
 value_from : (op : Operator) (text : List ℕ) (a b c : Value) → operand_or_none (first_word text) ≡ Some a → operand_or_none (first_word (rest_of text)) ≡ Some b → operand_or_none (rest_of (rest_of text)) ≡ Some c → value_in op text ≡ Some (value_of op a b c)
@@ -140,7 +141,7 @@ value_back op (a ∷ b ∷ c ∷ d ∷ operands) few fits = absurd (omega arith)
 
 pub spelled : (op : Operator) (operands : List Value) (line : List ℕ) → IsWritable op operands → line ≡ spelling op operands → line_value line ≡ Some (value_at op operands)
 spelled op operands line h e =
-    let words = map operand_word operands in
+    let words = map value_text operands in
     ap line_value e
     ∙ ap (λ o. and_then o (λ p. value_in p (operands_in (spelling op operands)))) (operator_back op words h.operator)
     ∙ ap (value_in op) (operands_back op words h.operator)

@@ -4,7 +4,7 @@ use Rattle.std.specs.List.{position_or_len, join_with_byte}
 use Rattle.std.proofs.Math.Seq.{take-append_seam, take-length, drop-append-add}
 use Rattle.std.proofs.lemmas.Bool.{and_parts}
 use Rattle.std.proofs.lemmas.List.{drop_all}
-use Rattle.operators.specs.Words.{before, after}
+use Rattle.source.specs.Words.{before, after}
 
 -- no byte of the word is the separator
 abbrev pub lacks : ℕ → List ℕ → Bool

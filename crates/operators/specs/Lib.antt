@@ -1,4 +1,3 @@
-pub mod Words
 pub mod Names
 pub mod Line
 pub mod Spelling

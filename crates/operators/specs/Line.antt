@@ -1,18 +1,17 @@
 -- The value of a line: an operator and its operands, one space between each two words.
-use Rattle.std.specs.Prelude.{ℕ, Bool, true, false, cond, List, [], ◌∷◌, codes, Some, None, Option}
+use Rattle.std.specs.Prelude.{ℕ, Bool, false, cond, List, [], ◌∷◌, codes, Some, Option}
 use Rattle.std.specs.Str.{bytes_eq}
 use Rattle.source.specs.declared.operator.Operator.{Operator}
 use Rattle.source.specs.declared.operator.Operator.TheVariants.{Extract}
 use Rattle.source.specs.declared.value.Value.{Value}
 use Rattle.source.specs.declared.value.Value as values
 use Rattle.source.specs.Values.{value_of}
-use Rattle.operators.specs.Words.{space, colon, before, after, number_in}
+use Rattle.source.specs.Text.{and_then, value_in_text}
+use Rattle.source.specs.Words.{before, after, number_in}
 use Rattle.operators.specs.Names.{operator_named}
 
--- what f gives of a value, where there is one
-abbrev pub and_then : {A B : Type 0} → Option A → (A → Option B) → Option B
-and_then None f = None
-and_then (Some a) f = f a
+abbrev pub space : ℕ
+space = 32
 
 abbrev pub first_word : List ℕ → List ℕ
 first_word text = before space text
@@ -21,24 +20,10 @@ first_word text = before space text
 abbrev pub rest_of : List ℕ → List ℕ
 rest_of text = after space text
 
--- K:N, the number N in K bits. Where there is no colon, N is empty and no number.
-abbrev pub bits_in : List ℕ → Option Value
-bits_in word =
-    and_then (number_in 32 (before colon word)) (λ k.
-    and_then (number_in 64 (after colon word)) (λ n.
-    Some (values.TheVariants.Bits k n)))
-
--- the operand that a word spells
-abbrev pub operand_in : List ℕ → Option Value
-operand_in word =
-    cond (bytes_eq word (codes "true")) (Some (values.TheVariants.Bool true))
-    (cond (bytes_eq word (codes "false")) (Some (values.TheVariants.Bool false))
-    (bits_in word))
-
 -- an empty word is an operand that the line does not have, and counts as false
 abbrev pub operand_or_none : List ℕ → Option Value
 operand_or_none [] = Some (values.TheVariants.Bool false)
-operand_or_none (b ∷ bs) = operand_in (b ∷ bs)
+operand_or_none (b ∷ bs) = value_in_text (b ∷ bs)
 
 -- extract's upper and lower bit are the first two words behind its name
 abbrev pub extract_in : List ℕ → Option Operator

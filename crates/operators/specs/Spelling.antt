@@ -1,5 +1,5 @@
 -- The lines that spell an operator and its operands, and what they give.
-use Rattle.std.specs.Prelude.{ℕ, ◌^◌, ◌<◌, ◌≤◌, true, false, List, [], ◌∷◌, ◌++◌, map, length, codes, All, ⊤, slice_index_or}
+use Rattle.std.specs.Prelude.{ℕ, ◌^◌, ◌<◌, ◌≤◌, false, List, [], ◌∷◌, ◌++◌, map, length, All, ⊤, slice_index_or}
 use Rattle.std.specs.Fmt.{decimal}
 use Rattle.std.specs.List.{join_with_byte}
 use Rattle.source.specs.declared.operator.Operator.{Operator}
@@ -7,7 +7,8 @@ use Rattle.source.specs.declared.operator.Operator.TheVariants.{Extract}
 use Rattle.source.specs.declared.value.Value.{Value}
 use Rattle.source.specs.declared.value.Value as values
 use Rattle.source.specs.Values.{value_of}
-use Rattle.operators.specs.Words.{space, colon}
+use Rattle.source.specs.Text.{value_text}
+use Rattle.operators.specs.Line.{space}
 use Rattle.operators.specs.Names.{name_of}
 
 -- the words of an operator: its name, and behind extract's its upper and its lower bit
@@ -18,15 +19,9 @@ bit_words op = []
 abbrev pub operator_words : Operator → List (List ℕ)
 operator_words op = name_of op ∷ bit_words op
 
--- the word of an operand: true, false or K:N
-abbrev pub operand_word : Value → List ℕ
-operand_word (values.TheVariants.Bool true) = codes "true"
-operand_word (values.TheVariants.Bool false) = codes "false"
-operand_word (values.TheVariants.Bits k n) = decimal k ++ (colon ∷ decimal n)
-
 -- the words of an operator and of as many operands as are written, one space between each two
 abbrev pub spelling : Operator → List Value → List ℕ
-spelling op operands = join_with_byte space (operator_words op ++ map operand_word operands)
+spelling op operands = join_with_byte space (operator_words op ++ map value_text operands)
 
 -- an operand that is not written counts as false
 abbrev pub operand_at : List Value → ℕ → Value

@@ -1,14 +1,14 @@
 // A line: an operator and its operands.
 ghost use Rattle.std.specs.Prelude.{◌≡◌, List, MatchOption};
-ghost use Rattle.operators.specs.Words.{number_in};
 ghost use Rattle.operators.specs.Names.{operator_named};
-ghost use Rattle.operators.specs.Line.{first_word, rest_of, bits_in, operand_in, operand_or_none, extract_in, operator_in, operands_in, value_in, line_value};
+ghost use Rattle.operators.specs.Line.{first_word, rest_of, operand_or_none, extract_in, operator_in, operands_in, value_in, line_value};
 ghost use Rattle.operators.specs.Spelling.{spelling, value_at, IsWritable};
 
 use source::apply::apply;
 use source::operator::Operator;
 use source::value::Value;
 
+// A match, and no `parse` of an operator: extract takes two numbers more, so a name alone does not give it.
 fn operator(name: &str) -> Option<Operator>
     ensures { result ≡ operator_named name.now }
 {
@@ -44,48 +44,16 @@ fn operator(name: &str) -> Option<Operator>
     }
 }
 
-fn width(word: &str) -> Option<u32>
-    ensures { result ≡ number_in 32 word.now }
-{
-    word.parse::<u32>().ok()
-}
-
-fn number(word: &str) -> Option<u64>
-    ensures { result ≡ number_in 64 word.now }
-{
-    word.parse::<u64>().ok()
-}
-
-// K:N, the number N in K bits.
-fn bits(word: &str) -> Option<Value>
-    ensures { result ≡ bits_in word.now }
-{
-    let (k, n) = word.split_once(':')?;
-    Some(Value::Bits(width(k)?, number(n)?))
-}
-
-fn operand(word: &str) -> Option<Value>
-    ensures { result ≡ operand_in word.now }
-{
-    match word {
-        "true" => Some(Value::Bool(true)),
-        "false" => Some(Value::Bool(false)),
-        _ => bits(word),
-    }
-}
-
 // The first word, and the rest of the line.
 fn word(line: &str) -> (&str, &str)
     ensures first { result.0.now ≡ first_word line.now }
     ensures rest { result.1.now ≡ rest_of line.now }
 {
-    match line.split_once(' ') {
-        Some((first, rest)) => (first, rest),
-        None => (line, ""),
-    }
+    line.split_once(' ').unwrap_or((line, ""))
 }
 
 // The operator at the line's start, and the rest of the line.
+#[tactic(auto, using(source::proofs::Parsing::number_in_parse))]
 fn head(line: &str) -> Option<(Operator, &str)>
     ensures { MatchOption result (operator_in line.now ≡ None)
         (λ x. (operator_in line.now ≡ Some x.0) × (x.1.now ≡ operands_in line.now)) }
@@ -94,7 +62,8 @@ fn head(line: &str) -> Option<(Operator, &str)>
     if name == "extract" {
         let (upper, after) = word(rest);
         let (lower, operands) = word(after);
-        Some((Operator::Extract(width(upper)?, width(lower)?), operands))
+        let op = Operator::Extract(upper.parse().ok()?, lower.parse().ok()?);
+        Some((op, operands))
     } else {
         Some((operator(name)?, rest))
     }
@@ -107,7 +76,7 @@ fn operand_or_none(word: &str) -> Option<Value>
     if word.is_empty() {
         Some(Value::Bool(false))
     } else {
-        operand(word)
+        word.parse().ok()
     }
 }
 

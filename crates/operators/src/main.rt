@@ -22,9 +22,7 @@ use std::io::{BufRead, BufReader};
 
 fn print(rt: &HostRuntime, answer: Option<Value>) -> io::Result<()> {
     match answer {
-        Some(Value::Bool(true)) => println!(rt; "true"),
-        Some(Value::Bool(false)) => println!(rt; "false"),
-        Some(Value::Bits(k, n)) => println!(rt; "{k}:{n}"),
+        Some(v) => println!(rt; "{v}"),
         None => println!(rt; "?"),
     }
 }

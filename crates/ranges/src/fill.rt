@@ -13,11 +13,10 @@ use source::width::Width;
 fn record_at<K: Keeper>(keeper: &K, before: &[K::Record], width: Width, at: usize) -> K::Record
     ensures { result ≡ record_at (K.whole keeper.now) before.now width.bits at }
 {
-    if at < before.len() {
-        before[at]
-    } else {
-        keeper.anything(width)
-    }
+    before
+        .get(at)
+        .copied()
+        .unwrap_or_else(|| keeper.anything(width))
 }
 
 // The record of a row, from the records of those before it.
@@ -28,21 +27,19 @@ pub fn record_of<K: Keeper>(keeper: &K, before: &[K::Record], entry: Entry) -> K
         Entry::Any(width) => keeper.anything(width),
         Entry::Number(width, n) => keeper.exactly(width, n),
         Entry::Applied(op, width, a, b, c) => {
-            let first = record_at(keeper, before, width, a);
-            let second = record_at(keeper, before, width, b);
-            let third = record_at(keeper, before, width, c);
-            keeper.made(op, width, first, second, third)
+            let operand = |at| record_at(keeper, before, width, at);
+            keeper.made(op, width, operand(a), operand(b), operand(c))
         }
     }
 }
 
 // Writes the record of row i at its place, if there is room.
+// The place is told by its index: a record is made from those before it, which a loop over the records would lend out.
 fn put<K: Keeper>(keeper: &K, entry: Entry, i: usize, records: &mut [K::Record])
     ensures { records.new ≡ slice_set records.old i (record_of (K.whole keeper.now) (K.exact keeper.now) (K.makes keeper.now) (take i records.old) entry) }
 {
     if i < records.len() {
-        let r = record_of(keeper, &records[0..i], entry);
-        records[i] = r;
+        records[i] = record_of(keeper, &records[..i], entry);
     }
 }
 

@@ -7,7 +7,6 @@ use keeper::keeper::Keeper;
 use keeper::plain::Plain;
 use source::operator::Operator;
 use source::width::Width;
-use std::test::Fail;
 
 // The ends of the record of the last of three rows: 100, any number, and 100 shifted by it.
 fn shifted<K: Keeper>(keeper: &K, width: Width, records: &mut [K::Record]) -> Option<(u64, u64)> {
@@ -17,19 +16,14 @@ fn shifted<K: Keeper>(keeper: &K, width: Width, records: &mut [K::Record]) -> Op
         Entry::Applied(Operator::BvLshr, width, 0, 1, 0),
     ];
     fill(keeper, &entries, records);
-    if records.len() < 3 {
-        return None;
-    }
-    let last = records[2];
-    Some((keeper.least(last), keeper.most(last)))
+    records
+        .get(2)
+        .map(|last| (keeper.least(*last), keeper.most(*last)))
 }
 
 #[test]
-fn follows_rows(rt: HostRuntime) -> Result<(), Fail> {
-    let Some(eight) = Width::new(8) else {
-        assert!(rt; false);
-        return Ok(());
-    };
+fn follows_rows(rt: HostRuntime) {
+    let eight = Width::new(8).unwrap();
     assert_eq!(rt;
         shifted(&Interval, eight, &mut [Interval.anything(eight); 3]),
         Some((0, 100))
@@ -42,15 +36,11 @@ fn follows_rows(rt: HostRuntime) -> Result<(), Fail> {
         shifted(&Plain, eight, &mut [Plain.anything(eight); 2]),
         None
     );
-    Ok(())
 }
 
 #[test]
-fn knows_limits(rt: HostRuntime) -> Result<(), Fail> {
-    let Some(eight) = Width::new(8) else {
-        assert!(rt; false);
-        return Ok(());
-    };
+fn knows_limits(rt: HostRuntime) {
+    let eight = Width::new(8).unwrap();
     let r = Interval.exactly(eight, 7);
     assert!(rt; stays_below(&Interval, r, 8) && !stays_below(&Interval, r, 7));
     assert_eq!(rt;
@@ -60,5 +50,4 @@ fn knows_limits(rt: HostRuntime) -> Result<(), Fail> {
         ),
         (0, 255)
     );
-    Ok(())
 }

@@ -2,6 +2,7 @@
 use Rattle.std.specs.Prelude.{List, ℕ, codes}
 use Rattle.refusal.specs.declared.Cause.{Cause}
 use Rattle.refusal.specs.declared.Cause.TheVariants.{NotYet, Grammar, Name, Depth, Capacity, Operand, Sort, Range, ConstantRange, SourcesFull, TargetFull, Level, ModelLength, RegisterRange, AndUnknown, Requirement, Line}
+use Rattle.refusal.specs.declared.Refusal.{Refusal}
 use Rattle.refusal.specs.declared.Layer as layer
 use Rattle.refusal.specs.declared.Layer.{Layer}
 
@@ -49,3 +50,7 @@ word_of layer.TheVariants.Order = codes "order"
 word_of layer.TheVariants.Workbook = codes "workbook"
 word_of layer.TheVariants.Model = codes "model"
 word_of layer.TheVariants.Line = codes "line"
+
+-- the refusal for a cause that tells a number
+abbrev pub told : Cause → ℕ → Refusal
+told cause at = record { cause = cause; at = at }

@@ -5,7 +5,7 @@
 #![tactic(auto)]
 
 ghost use Rattle.std.specs.Prelude.{◌≡◌};
-ghost use Rattle.refusal.specs.Causes.{number_of, layer_of, word_of};
+ghost use Rattle.refusal.specs.Causes.{number_of, layer_of, word_of, told};
 
 #[derive(Clone, Copy, PartialEq, Eq, Debug)]
 pub enum Cause {
@@ -62,28 +62,11 @@ pub struct Refusal {
 }
 
 impl Cause {
-    // The number under which a refusal is printed.
-    pub fn number(self) -> u8
-        ensures { result ≡ number_of self }
+    // The refusal for this cause that tells the number `at`.
+    pub fn at(self, at: usize) -> Refusal
+        ensures { result ≡ told self at }
     {
-        match self {
-            Cause::NotYet => 0,
-            Cause::Grammar => 1,
-            Cause::Name => 2,
-            Cause::Depth => 3,
-            Cause::Capacity => 4,
-            Cause::Operand => 5,
-            Cause::Sort => 6,
-            Cause::Range | Cause::ConstantRange => 7,
-            Cause::SourcesFull => 8,
-            Cause::TargetFull => 9,
-            Cause::Level => 10,
-            Cause::ModelLength => 11,
-            Cause::RegisterRange => 12,
-            Cause::AndUnknown => 13,
-            Cause::Requirement => 14,
-            Cause::Line => 15,
-        }
+        Refusal { cause: self, at }
     }
 
     pub fn layer(self) -> Layer
@@ -102,17 +85,44 @@ impl Cause {
     }
 }
 
+// The number under which a refusal is printed.
+impl From<Cause> for u8 {
+    ghost from_gives = { λ cause n. n ≡ number_of cause };
+
+    fn from(cause: Cause) -> u8 {
+        match cause {
+            Cause::NotYet => 0,
+            Cause::Grammar => 1,
+            Cause::Name => 2,
+            Cause::Depth => 3,
+            Cause::Capacity => 4,
+            Cause::Operand => 5,
+            Cause::Sort => 6,
+            Cause::Range | Cause::ConstantRange => 7,
+            Cause::SourcesFull => 8,
+            Cause::TargetFull => 9,
+            Cause::Level => 10,
+            Cause::ModelLength => 11,
+            Cause::RegisterRange => 12,
+            Cause::AndUnknown => 13,
+            Cause::Requirement => 14,
+            Cause::Line => 15,
+        }
+    }
+}
+
 impl Layer {
-    // The word under which a layer is printed.
-    pub fn word(self) -> &'static [u8]
+    // The word under which a layer is printed. It has no Display, since its one reader puts texts into a line of fixed
+    // size, where `write!` promises nothing once it answers an error, and no contract says that it answers none.
+    pub fn word(self) -> &'static str
         ensures { result.now ≡ word_of self }
     {
         match self {
-            Layer::Text => b"text",
-            Layer::Order => b"order",
-            Layer::Workbook => b"workbook",
-            Layer::Model => b"model",
-            Layer::Line => b"line",
+            Layer::Text => "text",
+            Layer::Order => "order",
+            Layer::Workbook => "workbook",
+            Layer::Model => "model",
+            Layer::Line => "line",
         }
     }
 }

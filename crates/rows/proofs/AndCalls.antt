@@ -20,22 +20,22 @@ use Rattle.rows.specs.Rows.{register_rows, rows_of, image, and_rows}
 use Rattle.rows.specs.Counts.{has_and, own_count}
 use Rattle.rows.specs.Limits.{usable}
 use Rattle.rows.specs.Law.{AndMeans}
-use Rattle.rows.specs.Ands.{and_count, and_cause, AndAppended}
+use Rattle.rows.specs.Ands.{lemma_of, and_count, and_cause, AndAppended}
 use Rattle.rows.proofs.Appending.{sorts, same_sorts, in_use}
 use Rattle.rows.proofs.Counting.{own_length, own_third, and_length}
 use Rattle.rows.proofs.AndLaw.{and_means}
 
 never : {A : Type 0} (o : Option A) (x : A) → o ≡ None → o ≡ Some x → ⊥
-never o x p q = let z : ◌≡◌ {A = ℕ} 0 1 = cc in omega arith
+never o x p q = cc
 
 -- the call goes on: the operator and its operands pass, and there is no cause to refuse all rows
 module _ (size : ℕ) (adds : Adds) (op : Operator) (o : Operands) (before : List Row) (at : ℕ) (has : has_and op ≡ true) (can : usable op o ≡ true) where
-  pub cause_is : and_cause op o size before at ≡ cause_of (and_count op o size) before at o.k o.a o.b o.a
-  cause_is = cond-true (has_and op && usable op o) (cause_of (and_count op o size) before at o.k o.a o.b o.a) (Some Range) (and_from (has_and op) (usable op o) has can)
+  pub cause_is : and_cause op o size before at ≡ cause_of (and_count op o size) before at (lemma_of o o.a)
+  cause_is = cond-true (has_and op && usable op o) (cause_of (and_count op o size) before at (lemma_of o o.a)) (Some Range) (and_from (has_and op) (usable op o) has can)
 
-  module _ (none : cause_of (and_count op o size) before at o.k o.a o.b o.a ≡ None) where
-    pub all_fit : Fit (and_count op o size) before at o.k o.a o.b o.a
-    all_fit = fit (and_count op o size) before at o.k o.a o.b o.a none
+  module _ (none : cause_of (and_count op o size) before at (lemma_of o o.a) ≡ None) where
+    pub all_fit : Fit (and_count op o size) before at (lemma_of o o.a)
+    all_fit = fit (and_count op o size) before at (lemma_of o o.a) none
 
     abbrev front : List Row
     front = take at before
@@ -71,7 +71,7 @@ module _ (size : ℕ) (adds : Adds) (op : Operator) (o : Operands) (before : Lis
           (omega (arith, h.0), sort_one p (omega (arith, h.0)) ∙ sym (same_sorts front (register_rows o.k at) at front_length p h.0) ∙ (in_front p h).1)
 
       -- the scheme does not refuse
-      scheme_fit : Fit size one (at + 6) o.k o.a o.b at
+      scheme_fit : Fit size one (at + 6) (lemma_of o at)
       scheme_fit = record {
         a_in = later o.a all_fit.a_in;
         b_in = later o.b all_fit.b_in;
@@ -82,15 +82,15 @@ module _ (size : ℕ) (adds : Adds) (op : Operator) (o : Operands) (before : Lis
         limit = omega (arith, all_fit.limit);
       }
 
-      pub scheme_grants : (cause : Cause) → cause_of size one (at + 6) o.k o.a o.b at ≡ Some cause → ⊥
-      scheme_grants cause refused = never (cause_of size one (at + 6) o.k o.a o.b at) cause (free size one (at + 6) o.k o.a o.b at scheme_fit) refused
+      pub scheme_grants : (cause : Cause) → cause_of size one (at + 6) (lemma_of o at) ≡ Some cause → ⊥
+      scheme_grants cause refused = never (cause_of size one (at + 6) (lemma_of o at)) cause (free size one (at + 6) (lemma_of o at) scheme_fit) refused
 
-      module _ (two three : List Row) (answer : ℕ) (st : Stated size adds one two (at + 6) o.k o.a o.b at answer) where
+      module _ (two three : List Row) (answer : ℕ) (st : Stated size adds one two (at + 6) (lemma_of o at) answer) where
         two_length : length two ≡ length before
         two_length = ap length st.table ∙ length_laid one (at + 6) st.new (omega (arith, st.long, scheme_fit.room)) ∙ one_length
 
         pub own_room : at + (6 + size) + own_count op (with_third o at) ≤ length two
-        own_room = omega (arith, two_length, all_fit.room, own_third op o at)
+        own_room = omega (arith, two_length, all_fit.room, own_third o at op has)
 
         module _ (last : three ≡ laid two (at + (6 + size)) (rows_of op (with_third o at) (at + (6 + size)))) where
           abbrev new : List Row
@@ -113,11 +113,11 @@ module _ (size : ℕ) (adds : Adds) (op : Operator) (o : Operands) (before : Lis
               laid_three before one two three at (at + 6) (at + (6 + length new)) (register_rows o.k at) new own wrote st.table
               (last ∙ ap (λ n. laid two n (rows_of op (with_third o at) n)) here) refl
               (omega arith)
-              (omega (arith, all_fit.room, st.long, own_length op (with_third o at) (at + (6 + length new)), own_third op o at))
+              (omega (arith, all_fit.room, st.long, own_length op (with_third o at) (at + (6 + length new)), own_third o at op has))
 
           ends : take (at + and_count op o size) three ≡ second ++ own
           ends =
-              in_use before three at (and_count op o size) (and_rows op o at new) (omega (arith, and_length op o at new, st.long)) all_fit.room table
+              in_use before three at (and_count op o size) (and_rows op o at new) (omega (arith, and_length op o at new has, st.long)) all_fit.room table
               ∙ sym (append_assoc front (register_rows o.k at) (new ++ own)) ∙ sym (append_assoc first new own)
 
           second_sort : sort_at second answer ≡ sort.Bool
@@ -130,7 +130,7 @@ module _ (size : ℕ) (adds : Adds) (op : Operator) (o : Operands) (before : Lis
           and_appended = record {
             new = new;
             long = st.long;
-            added = subst (λ (t : List Row). adds t o.k o.a o.b at new answer) begins st.added;
+            added = subst (λ (t : List Row). adds t (lemma_of o at) new answer) begins st.added;
             table = table;
             low = st.low;
             high = omega (arith, st.high);
@@ -138,46 +138,30 @@ module _ (size : ℕ) (adds : Adds) (op : Operator) (o : Operands) (before : Lis
                 subst (λ (t : List Row). AndMeans op o front at new t answer) (sym ends)
                 (and_means op o front at front_length has all_fit.least (in_front o.a all_fit.a_in) (in_front o.b all_fit.b_in) new answer st.known
                 (λ h. subst Sound goes_on (st.sound (subst Sound (sym begins) h))) st.low (omega (arith, st.high, st.long)) second_sort
-                (subst (λ (t : List Row). Means t o.k o.a o.b at answer) goes_on st.means));
+                (subst (λ (t : List Row). Means t (lemma_of o at) answer) goes_on st.means));
           }
 
 -- The same at the names of the code: `n` rows are the scheme's and m the operator's, whose operands are `told`.
 module _ (size : ℕ) (adds : Adds) (op : Operator) (o : Operands) (before : List Row) (at : ℕ) (has : has_and op ≡ true) (can : usable op o ≡ true)
-    (n m : ℕ) (is : n ≡ size) (own_is : m ≡ own_count op o) (free_all : cause_of (6 + n + m) before at o.k o.a o.b o.a ≡ None) where
+    (n m : ℕ) (is : n ≡ size) (own_is : m ≡ own_count op o) (free_all : cause_of (6 + n + m) before at (lemma_of o o.a) ≡ None) where
   count_is : 6 + n + m ≡ and_count op o size
   count_is = omega arith
 
-  none : cause_of (and_count op o size) before at o.k o.a o.b o.a ≡ None
-  none = ap (λ t. cause_of t before at o.k o.a o.b o.a) (sym count_is) ∙ free_all
-
-  pub told_limit : at + (6 + n) ≤ 32768
-  told_limit = omega (arith, (all_fit size adds op o before at has can none).limit)
+  none : cause_of (and_count op o size) before at (lemma_of o o.a) ≡ None
+  none = ap (λ t. cause_of t before at (lemma_of o o.a)) (sym count_is) ∙ free_all
 
   module _ (one : List Row) (wrote : one ≡ laid before at (register_rows o.k at)) where
-    pub told_grants : (cause : Cause) → cause_of size one (at + 6) o.k o.a o.b at ≡ Some cause → ⊥
+    pub told_grants : (cause : Cause) → cause_of size one (at + 6) (lemma_of o at) ≡ Some cause → ⊥
     told_grants = scheme_grants size adds op o before at has can none one wrote
 
-    module _ (two : List Row) (answer : ℕ) (st : Stated size adds one two (at + 6) o.k o.a o.b at answer) (told : Operands) (told_is : told ≡ with_third o at) where
-      there : at + (6 + n) ≡ at + (6 + size)
-      there = ap (λ t. at + (6 + t)) is
+    module _ (two : List Row) (answer : ℕ) (st : Stated size adds one two (at + 6) (lemma_of o at) answer) (top : Operator) (told : Operands) (top_is : top ≡ op) (told_is : told ≡ with_third o at) where
+      pub told_room : at + (6 + n) + own_count top told ≤ length two
+      told_room = rw (top_is, told_is, is) (own_room size adds op o before at has can none one wrote two two answer st)
 
-      rows_are : rows_of op told (at + (6 + n)) ≡ rows_of op (with_third o at) (at + (6 + size))
-      rows_are = ap (λ (t : Operands). rows_of op t (at + (6 + n))) told_is ∙ ap (rows_of op (with_third o at)) there
-
-      image_is : image op told (at + (6 + n)) ≡ image op (with_third o at) (at + (6 + size))
-      image_is = ap (λ (t : Operands). image op t (at + (6 + n))) told_is ∙ ap (image op (with_third o at)) there
-
-      pub told_usable : usable op told ≡ true
-      told_usable = ap (usable op) told_is ∙ can
-
-      pub told_room : at + (6 + n) + own_count op told ≤ length two
-      told_room = omega (arith, there, ap (own_count op) told_is, own_room size adds op o before at has can none one wrote two two answer st)
-
-      pub told_appended : (three : List Row) (i : ℕ) → three ≡ laid two (at + (6 + n)) (rows_of op told (at + (6 + n))) → i ≡ image op told (at + (6 + n)) →
+      pub told_appended : (three : List Row) (i : ℕ) → three ≡ laid two (at + (6 + n)) (rows_of top told (at + (6 + n))) → i ≡ image top told (at + (6 + n)) →
           (and_cause op o size before at ≡ None) × (i ≡ image op (with_third o at) (at + (6 + size))) × AndAppended size adds op o before three at answer
       told_appended three i last ends-in = (
         cause_is size adds op o before at has can ∙ none,
-        ends-in ∙ image_is,
-        and_appended size adds op o before at has can none one wrote two three answer st
-            (last ∙ ap (λ (t : List Row). laid two (at + (6 + n)) t) rows_are ∙ ap (λ t. laid two t (rows_of op (with_third o at) (at + (6 + size)))) there),
+        rw (top_is, told_is, is) at ends-in,
+        and_appended size adds op o before at has can none one wrote two three answer st (rw (top_is, told_is, is) at last),
       )

@@ -20,6 +20,7 @@ use Rattle.rows.specs.Counts.{has_and}
 use Rattle.rows.specs.Law.{shown, shown_sort, in_range, Suited, Given, Appends, RegisterMeans, OrderMeans, AndMeans}
 use Rattle.rows.proofs.Takens.{Known}
 use Rattle.rows.proofs.Appending.{same_sorts, keeps_values, appends_then}
+use Rattle.rows.specs.Ands.{lemma_of}
 use Rattle.rows.proofs.RegisterLaw.{register_means}
 use Rattle.rows.proofs.OrderLaw.{order_means}
 use Rattle.rows.proofs.AndOps.{and_fitting, and_third, and_result, and_fits, not_ite, and_known}
@@ -54,7 +55,7 @@ module _ (op : Operator) (o : Operands) (front : List Row) (at : ℕ) (len : len
   second_length = omega (arith, first_length, length-append first new)
 
   module _ (known : unknowns new ≡ 0) (sound : Sound first → Sound second) (low : at + 6 ≤ answer) (high : answer < here)
-      (boolean : sort_at second answer ≡ sort.Bool) (means : Means second o.k o.a o.b at answer) where
+      (boolean : sort_at second answer ≡ sort.Bool) (means : Means second (lemma_of o at) answer) where
     register : RegisterMeans o.k front at first
     register = register_means o.k front at len
 

@@ -17,7 +17,7 @@ use Rattle.rows.specs.Law.{Fitting, Given}
 use Rattle.rows.proofs.Takens.{Known, two_of}
 
 module _ (P : Operator → Type 0) (x : P BvAnd) (y : P BvOr) (z : P BvXor) where
-  and_op : (op : Operator) → has_and op ≡ true → P op
+  pub and_op : (op : Operator) → has_and op ≡ true → P op
   and_op BvAnd e = x
   and_op BvOr e = y
   and_op BvXor e = z
@@ -70,6 +70,6 @@ pub and_known : (vs : List Val) (o : Operands) (va vb vc : Value) (op : Operator
     Known vs o.a o.k o.left va × Known vs o.b o.k o.right vb
 and_known vs o va vb vc =
     and_op (λ op. taken op va vb vc ≡ true → Given vs op o va vb vc → Known vs o.a o.k o.left va × Known vs o.b o.k o.right vb)
-    (λ t g. two_of vs o va vb vc true t g.first (g.second refl))
-    (λ t g. two_of vs o va vb vc true t g.first (g.second refl))
-    (λ t g. two_of vs o va vb vc true t g.first (g.second refl))
+    (λ t g. two_of vs o va vb vc t g.first (g.second refl))
+    (λ t g. two_of vs o va vb vc t g.first (g.second refl))
+    (λ t g. two_of vs o va vb vc t g.first (g.second refl))

@@ -1,5 +1,5 @@
 -- The chain of choices of a shift: the operand moved by the amount that is chosen.
-use Rattle.std.proofs.Common.{◌≡◌, ℕ, zero, suc, ◌+◌, ◌<◌, ◌≤◌, Bool, true, false, cond, eqb, ltb, List, [], ◌∷◌, ◌++◌, length, ℤ, pos, sym, refl, ap, ◌∙◌, arith, lit<, length-append}
+use Rattle.std.proofs.Common.{◌≡◌, ℕ, zero, suc, ◌+◌, ◌<◌, ◌≤◌, cond, eqb, ltb, List, [], ◌∷◌, ◌++◌, length, ℤ, pos, sym, refl, ap, ◌∙◌, arith, lit<, length-append}
 use Rattle.std.proofs.lemmas.Bool.{cond-false, le-ltb}
 use Rattle.std.proofs.lemmas.Bool.Decides.{nat_tests}
 use Rattle.target.specs.declared.row.Sort.TheVariants as sort
@@ -9,6 +9,7 @@ use Rattle.target.specs.Values.{Val, int, bool, Reading, value_at}
 use Rattle.target.specs.Meaning.{row_value}
 use Rattle.target.proofs.Blocks.{Each, Obeys, each_front, each_back}
 use Rattle.rows.specs.Rows.{last_or, amount_rows, shift_rows}
+use Rattle.rows.proofs.Conds.{cond_of}
 use Rattle.rows.proofs.Ends.{Ends, last_is}
 use Rattle.rows.proofs.Shifting.{length_amount}
 
@@ -37,10 +38,6 @@ last_choice moved b k other at pre hk hp =
 chosen : (n i f : ℕ) (g : ℕ → ℕ) → cond (ltb n i) (g n) (cond (eqb n i) (g i) f) ≡ cond (ltb n (suc i)) (g n) f
 chosen n i f g = grind (arith, nat_tests)
 
-cond_int : (q : Bool) (m n : ℕ) → cond q (int (pos m)) (int (pos n)) ≡ int (pos (cond q m n))
-cond_int true m n = refl
-cond_int false m n = refl
-
 -- the rows `moved i` end in the operand moved by i places, which is g i
 module _ (reading : Reading) (numbers : ℕ → ℤ) (vs : List Val) (moved : ℕ → ℕ → List Row) (g : ℕ → ℕ) (k b y : ℕ)
     (eb : value_at vs b ≡ int (pos y)) (some : (i at : ℕ) → 1 ≤ length (moved i at))
@@ -65,7 +62,7 @@ module _ (reading : Reading) (numbers : ℕ → ℤ) (vs : List Val) (moved : �
       let h3 : Each O (at + (2 + n)) pick = each_back O (at + 2) (at + (2 + n)) m pick (omega arith) h2 in
       let e : at + (1 + n) ≡ last_or (at + 2) (at + 2) m = omega (arith, last_is (at + 2) (at + 2) m (some i (at + 2))) in
       let v2 : value_at vs (at + (1 + n)) ≡ int (pos (g i)) = ap (value_at vs) e ∙ moves i (at + 2) (omega arith) (each_front O (at + 2) m pick h2) in
-      let v3 : value_at vs (at + (2 + n)) ≡ int (pos (cond (eqb y i) (g i) f)) = h3 0 (lit< tt) ∙ rw (v1, v2, ef) (cond_int (eqb y i) (g i) f) in
+      let v3 : value_at vs (at + (2 + n)) ≡ int (pos (cond (eqb y i) (g i) f)) = h3 0 (lit< tt) ∙ rw (v1, v2, ef) (cond_of (λ n. int (pos n)) (eqb y i) (g i) f) in
       choice_value i (at + (2 + n)) (at + (3 + n)) (cond (eqb y i) (g i) f) (omega arith) v3 next ∙ ap (λ t. int (pos t)) (chosen y i f g)
 
   pub shift_ends : (other at : ℕ) (pre : List Row) → 1 ≤ length pre → 1 ≤ k → value_at vs at ≡ int (pos 0) →

@@ -1,7 +1,7 @@
+pub mod Conds
 pub mod Shifting
 pub mod Parts
 pub mod Counting
-pub mod Grants
 pub mod Whole
 pub mod Ends
 pub mod Chain

@@ -1,5 +1,5 @@
 -- The rows of an operator have no unknown among them, and its image is of the sort of its result.
-use Rattle.std.proofs.Common.{◌≡◌, ℕ, zero, suc, ◌+◌, ◌-◌, ◌*◌, ◌/◌, ◌^◌, ◌<◌, ◌≤◌, Bool, true, false, cond, ◌&&◌, ltb, leb, List, [], ◌∷◌, length, sym, refl, ap, ◌∙◌, arith, lit<}
+use Rattle.std.proofs.Common.{◌≡◌, ℕ, zero, suc, ◌+◌, ◌-◌, ◌*◌, ◌^◌, ◌<◌, ◌≤◌, Bool, true, false, cond, ◌&&◌, leb, List, [], ◌∷◌, length, sym, refl, ap, ◌∙◌, arith, lit<}
 use Rattle.std.proofs.lemmas.Bool.{and_parts, cond_both, false≢true}
 use Rattle.source.specs.declared.operator.Operator as op
 use Rattle.source.specs.declared.operator.Operator.{Operator}
@@ -9,21 +9,17 @@ use Rattle.source.specs.Sorts.{Shape, one_bits, two_bits, any_bits, one_truth, t
 use Rattle.target.specs.declared.row.Sort.{Sort}
 use Rattle.target.specs.declared.row.Sort.TheVariants as sort
 use Rattle.target.specs.declared.row.Row.{Row}
-use Rattle.target.specs.declared.row.Row.TheVariants.{Number, Add, Sub, Times, Quot, Rem, Equal, Choose}
+use Rattle.target.specs.declared.row.Row.TheVariants.{Number, Sub, Quot, Rem, Choose}
 use Rattle.target.specs.Sorts.{sort_of}
 use Rattle.target.specs.Meaning.{unknowns}
 use Rattle.target.specs.Soundness.{Takes}
 use Rattle.target.proofs.Blocks.{Each, HasSort, each_back, unknowns-++}
 use Rattle.rows.specs.declared.operands.Operands.{Operands}
-use Rattle.rows.specs.Rows.{top, unless, reduced, amount_rows, shift_rows, right_rows, left_rows, rows_of, image}
+use Rattle.rows.specs.Rows.{top, spared, reduced, amount_rows, shift_rows, right_rows, left_rows, rows_of, image}
 use Rattle.rows.specs.Counts.{has_and}
 use Rattle.rows.specs.Law.{shown_sort, Fitting, Suited}
 use Rattle.rows.proofs.Chain as chain
 use Rattle.rows.proofs.Sounds.{EndsInt, shift_sort, right_ends, left_ends}
-
-unless_known : (test : Bool) (rows : List Row) → unknowns rows ≡ 0 → unknowns (unless test rows) ≡ 0
-unless_known true rows e = refl
-unless_known false rows e = e
 
 cond_known : (test : Bool) (xs ys : List Row) → unknowns xs ≡ 0 → unknowns ys ≡ 0 → unknowns (cond test xs ys) ≡ 0
 cond_known true xs ys e f = e
@@ -42,19 +38,19 @@ shift_known moved b e (suc i) former at =
     )
 
 pub no_unknowns : (op : Operator) (o : Operands) (at : ℕ) → unknowns (rows_of op o at) ≡ 0
-no_unknowns BvNeg o at = omega (arith, unless_known (leb 1 o.left.least) (Rem (at + 1) at ∷ []) refl)
-no_unknowns BvAdd o at = omega (arith, unless_known (leb (o.left.most + o.right.most) (top o.k)) (Number (2 ^ o.k) ∷ Rem at (at + 1) ∷ []) refl)
-no_unknowns BvSub o at = omega (arith, unless_known (leb o.right.most o.left.least) (Number (2 ^ o.k) ∷ Rem at (at + 1) ∷ []) refl)
-no_unknowns BvMul o at = omega (arith, unless_known (leb (o.left.most * o.right.most) (top o.k)) (Number (2 ^ o.k) ∷ Rem at (at + 1) ∷ []) refl)
-no_unknowns BvUdiv o at = cond_known (leb 1 o.right.least) (Quot o.a o.b ∷ []) _ refl refl
-no_unknowns BvUrem o at = cond_known (leb 1 o.right.least) (Rem o.a o.b ∷ []) _ refl refl
-no_unknowns (Extract u l) o at = omega (arith, unless_known (ltb (o.left.most / 2 ^ l) (2 ^ (u - l + 1))) (Number (2 ^ (u - l + 1)) ∷ Rem (at + 1) (at + 2) ∷ []) refl)
+no_unknowns BvNeg o at = omega (arith, cond_known (spared BvNeg o) [] (Rem (at + 1) at ∷ []) refl refl)
+no_unknowns BvAdd o at = omega (arith, cond_known (spared BvAdd o) [] (Number (2 ^ o.k) ∷ Rem at (at + 1) ∷ []) refl refl)
+no_unknowns BvSub o at = omega (arith, cond_known (spared BvSub o) [] (Number (2 ^ o.k) ∷ Rem at (at + 1) ∷ []) refl refl)
+no_unknowns BvMul o at = omega (arith, cond_known (spared BvMul o) [] (Number (2 ^ o.k) ∷ Rem at (at + 1) ∷ []) refl refl)
+no_unknowns BvUdiv o at = cond_known (spared BvUdiv o) _ _ refl refl
+no_unknowns BvUrem o at = cond_known (spared BvUrem o) _ _ refl refl
+no_unknowns (Extract u l) o at = omega (arith, cond_known (spared (Extract u l) o) [] (Number (2 ^ (u - l + 1)) ∷ Rem (at + 1) (at + 2) ∷ []) refl refl)
 no_unknowns BvLshr o at = omega (arith, shift_known (right_rows o.a) o.b (λ i p. refl) o.k at (at + 1))
 no_unknowns BvShl o at =
     omega (
       arith,
       shift_known (left_rows o.k o.left.most (at + 1) o.a) o.b
-          (λ i p. omega (arith, unless_known (leb (o.left.most * 2 ^ i) (top o.k)) (Rem (p + 1) (at + 1) ∷ []) refl)) o.k at (at + 2),
+          (λ i p. omega (arith, cond_known (leb (o.left.most * 2 ^ i) (top o.k)) [] (Rem (p + 1) (at + 1) ∷ []) refl refl)) o.k at (at + 2),
     )
 no_unknowns BvNot o at = refl
 no_unknowns Concat o at = refl
@@ -114,21 +110,19 @@ module _ (s : ℕ → Sort) (o : Operands) (at : ℕ) where
         Each (HasSort s) at (rows_of op o at) → s (image op o at) ≡ shown_sort (result_sort op a b c)
     image_sort BvNot f i d h = h 3 (lit< tt) ∙ bits_int a f
     image_sort BvNeg f i d h =
-        cond_both (leb 1 o.left.least) [] (Rem (at + 1) at ∷ []) (λ t. EndsInt s o.c at (Number (2 ^ o.k) ∷ Sub at o.a ∷ t)) (λ t h. h 1 (lit< tt)) (λ t h. h 2 (lit< tt)) h
+        cond_both (spared BvNeg o) [] (Rem (at + 1) at ∷ []) (λ t. EndsInt s o.c at (Number (2 ^ o.k) ∷ Sub at o.a ∷ t)) (λ t h. h 1 (lit< tt)) (λ t h. h 2 (lit< tt)) h
         ∙ bits_int a f
-    image_sort BvAdd f i d h = reduced_int (Add o.a o.b) (leb (o.left.most + o.right.most) (top o.k)) o.k refl h ∙ two_int a b f
-    image_sort BvSub f i d h = reduced_int (Sub o.a o.b) (leb o.right.most o.left.least) o.k refl h ∙ two_int a b f
-    image_sort BvMul f i d h = reduced_int (Times o.a o.b) (leb (o.left.most * o.right.most) (top o.k)) o.k refl h ∙ two_int a b f
+    image_sort BvAdd f i d h = reduced_int _ (spared BvAdd o) o.k refl h ∙ two_int a b f
+    image_sort BvSub f i d h = reduced_int _ (spared BvSub o) o.k refl h ∙ two_int a b f
+    image_sort BvMul f i d h = reduced_int _ (spared BvMul o) o.k refl h ∙ two_int a b f
     image_sort BvUdiv f i d h =
-        cond_both (leb 1 o.right.least) (Quot o.a o.b ∷ []) (Number 0 ∷ Equal o.b at ∷ Number (top o.k) ∷ Quot o.a o.b ∷ Choose sort.Int (at + 1) (at + 2) (at + 3) ∷ [])
-        (EndsInt s o.c at) (λ t h. h 0 (lit< tt)) (λ t h. h 4 (lit< tt)) h
+        cond_both (spared BvUdiv o) _ _ (EndsInt s o.c at) (λ t h. h 0 (lit< tt)) (λ t h. h 4 (lit< tt)) h
         ∙ two_int a b f
     image_sort BvUrem f i d h =
-        cond_both (leb 1 o.right.least) (Rem o.a o.b ∷ []) (Number 0 ∷ Equal o.b at ∷ Rem o.a o.b ∷ Choose sort.Int (at + 1) o.a (at + 2) ∷ [])
-        (EndsInt s o.c at) (λ t h. h 0 (lit< tt)) (λ t h. h 3 (lit< tt)) h
+        cond_both (spared BvUrem o) _ _ (EndsInt s o.c at) (λ t h. h 0 (lit< tt)) (λ t h. h 3 (lit< tt)) h
         ∙ two_int a b f
     image_sort (Extract u l) f i d h =
-        cond_both (ltb (o.left.most / 2 ^ l) (2 ^ (u - l + 1))) [] (Number (2 ^ (u - l + 1)) ∷ Rem (at + 1) (at + 2) ∷ []) (λ t. EndsInt s o.c at (Number (2 ^ l) ∷ Quot o.a at ∷ t))
+        cond_both (spared (Extract u l) o) [] (Number (2 ^ (u - l + 1)) ∷ Rem (at + 1) (at + 2) ∷ []) (λ t. EndsInt s o.c at (Number (2 ^ l) ∷ Quot o.a at ∷ t))
         (λ t h. h 1 (lit< tt)) (λ t h. h 3 (lit< tt)) h
     image_sort Concat f i d h = h 2 (lit< tt)
     image_sort BvAnd f i d h = d refl ∙ two_int a b f

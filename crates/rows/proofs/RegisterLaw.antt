@@ -1,14 +1,14 @@
 -- The law of the rows of a register, a constant and a truth value.
-use Rattle.std.proofs.Common.{◌≡◌, ℕ, ◌+◌, ◌^◌, ◌≤◌, Bool, true, ◌&&◌, leb, List, [], ◌∷◌, ◌++◌, length, take, ℤ, pos, negsuc, sym, refl, ap, ◌∙◌, subst, arith, lit<, length-append}
+use Rattle.std.proofs.Common.{◌≡◌, ℕ, ◌+◌, ◌^◌, ◌≤◌, true, ◌&&◌, leb, List, [], ◌∷◌, ◌++◌, length, take, ℤ, pos, negsuc, sym, refl, ap, ◌∙◌, subst, arith, lit<, length-append}
 use lib.Signed.{lt_z, le_z}
 use Rattle.std.proofs.lemmas.List.{length-take-le, take_at}
-use Rattle.std.proofs.lemmas.Bool.{le-leb, leb-true, cond-true}
+use Rattle.std.proofs.lemmas.Bool.{le-leb}
 use Rattle.source.specs.declared.value.Value.{Value}
 use Rattle.source.specs.declared.value.Value.TheVariants as value
 use Rattle.target.specs.declared.row.Sort.{Sort}
 use Rattle.target.specs.declared.row.Row.{Row}
 use Rattle.target.specs.declared.row.Row.TheVariants.{Unknown, Number, AtMost, Less, And}
-use Rattle.target.specs.Tables.{laid, laid_if_room}
+use Rattle.target.specs.Tables.{laid}
 use Rattle.target.specs.Values.{Val, int, bool, Reading, value_at}
 use Rattle.target.specs.Meaning.{row_value, unknowns, values}
 use Rattle.target.specs.Soundness.{RowSound, sort_at}
@@ -88,8 +88,8 @@ known (value.Bits k n) = refl
 
 row_value_lem : (reading : Reading) (numbers : ℕ → ℤ) (vs : List Val) (n : ℕ) (v : Value) → row_value reading numbers vs n (value_row v) ≡ shown v
 unfolding row_value
-row_value_lem reading numbers vs n (value.Bool b) = refl
-row_value_lem reading numbers vs n (value.Bits k m) = refl
+row_value_lem reading numbers ws n (value.Bool b) = refl
+row_value_lem reading numbers ws n (value.Bits k m) = refl
 
 value_means : (v : Value) (front : List Row) (at : ℕ) → length front ≡ at → ValueMeans v front at (front ++ (value_row v ∷ []))
 value_means v front at len =
@@ -103,12 +103,7 @@ value_means v front at len =
           ∙ row_value_lem reading numbers (values reading numbers all) (unknowns (take at all)) v;
     }
 
--- laid, if there was room
-pub laid_value : (v : Value) (before after : List Row) (at : ℕ) (fits : Bool) → fits ≡ leb (at + 1) (length before) → after ≡ laid_if_room before at (value_row v ∷ []) → fits ≡ true →
-    ValueMeans v (take at before) at (take (at + 1) after)
-laid_value v before after at fits test table ok =
-    let can : leb (at + 1) (length before) ≡ true = sym test ∙ ok in
-    let room : at + 1 ≤ length before = leb-true (at + 1) (length before) can in
-    subst (ValueMeans v (take at before) at)
-    (sym (in_use before after at 1 (value_row v ∷ []) refl room (table ∙ cond-true (leb (at + 1) (length before)) (laid before at (value_row v ∷ [])) before can)))
+pub laid_value : (v : Value) (before after : List Row) (at : ℕ) → at + 1 ≤ length before → after ≡ laid before at (value_row v ∷ []) → ValueMeans v (take at before) at (take (at + 1) after)
+laid_value v before after at room table =
+    subst (ValueMeans v (take at before) at) (sym (in_use before after at 1 (value_row v ∷ []) refl room table))
     (value_means v (take at before) at (length-take-le at before (omega arith)))

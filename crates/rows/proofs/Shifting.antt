@@ -12,13 +12,10 @@ length_amount moved b i former at =
     omega (arith, length-append (moved i (at + 2)) (Choose sort.TheVariants.Int (at + 1) (at + (1 + length (moved i (at + 2)))) former ∷ []))
 
 -- the rows of one amount, laid in three parts
-module _ (moved : ℕ → ℕ → List Row) (b i former at next end : ℕ) (rows one two three : List Row)
+module _ (moved : ℕ → ℕ → List Row) (b i former at next : ℕ) (rows one two three : List Row)
     (first : one ≡ laid rows at (Number i ∷ Equal b at ∷ [])) (then : two ≡ laid one (at + 2) (moved i (at + 2))) (is : next ≡ at + 2 + length (moved i (at + 2)))
-    (last : three ≡ laid two next (Choose sort.TheVariants.Int (at + 1) (next - 1) former ∷ [])) (stop : end ≡ next + 1)
+    (last : three ≡ laid two next (Choose sort.TheVariants.Int (at + 1) (next - 1) former ∷ []))
     (room : at + length (amount_rows moved b i former at) ≤ length rows) where
-  pub amount_next : end ≡ at + length (amount_rows moved b i former at)
-  amount_next = omega (arith, length_amount moved b i former at)
-
   pub amount_laid : three ≡ laid rows at (amount_rows moved b i former at)
   amount_laid =
       let n : ℕ = length (moved i (at + 2)) in

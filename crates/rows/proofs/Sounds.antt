@@ -1,5 +1,5 @@
 -- The rows of an operator are sound where its operands are earlier rows of the right sorts.
-use Rattle.std.proofs.Common.{◌≡◌, ℕ, zero, suc, ◌+◌, ◌-◌, ◌*◌, ◌/◌, ◌^◌, ◌≤◌, Bool, true, false, cond, ltb, leb, List, [], ◌∷◌, ◌++◌, length, sym, refl, ap, ◌∙◌, arith, lit<}
+use Rattle.std.proofs.Common.{◌≡◌, ℕ, zero, suc, ◌+◌, ◌-◌, ◌*◌, ◌^◌, ◌≤◌, Bool, true, false, cond, leb, List, [], ◌∷◌, ◌++◌, length, sym, refl, ap, ◌∙◌, arith, lit<}
 use Rattle.std.proofs.lemmas.Bool.{cond_both}
 use Rattle.target.specs.declared.row.Sort.{Sort}
 use Rattle.target.specs.declared.row.Sort.TheVariants as sort
@@ -11,7 +11,7 @@ use Rattle.rows.specs.declared.operands.Operands.{Operands}
 use Rattle.source.specs.declared.operator.Operator as op
 use Rattle.source.specs.declared.operator.Operator.{Operator}
 use Rattle.source.specs.declared.operator.Operator.TheVariants.{BvNot, BvNeg, BvAdd, BvSub, BvMul, BvUdiv, BvUrem, Extract, Concat, BvAnd, BvOr, BvXor, BvLshr, BvShl, BvUlt, BvUle, BvUgt, BvUge, BvSlt, BvSle, BvSgt, BvSge, Ite, Implies}
-use Rattle.rows.specs.Rows.{top, unless, last_or, amount_rows, shift_rows, right_rows, left_rows, rows_of}
+use Rattle.rows.specs.Rows.{top, spared, unless, last_or, amount_rows, shift_rows, right_rows, left_rows, rows_of}
 use Rattle.rows.specs.Law.{Suited}
 use Rattle.rows.proofs.Shifting.{length_amount}
 use Rattle.rows.proofs.Ends.{last_is}
@@ -35,10 +35,10 @@ module _ (s : ℕ → Sort) where
   either at false xs ys f g = from at ys g
 
   -- with the rows that can be spared, and without
-  spared : (at : ℕ) (xs ys : List Row) (test : Bool) → (All (HasSort s) at (xs ++ []) → All (RowSound s) at (xs ++ [])) → (All (HasSort s) at (xs ++ ys) → All (RowSound s) at (xs ++ ys)) →
+  with_rest : (at : ℕ) (xs ys : List Row) (test : Bool) → (All (HasSort s) at (xs ++ []) → All (RowSound s) at (xs ++ [])) → (All (HasSort s) at (xs ++ ys) → All (RowSound s) at (xs ++ ys)) →
       Sounds at (xs ++ unless test ys)
-  spared at xs ys true f g = from at (xs ++ []) f
-  spared at xs ys false f g = from at (xs ++ ys) g
+  with_rest at xs ys true f g = from at (xs ++ []) f
+  with_rest at xs ys false f g = from at (xs ++ ys) g
 
   -- the last of the rows, or `other` where there is none, is a whole number
   abbrev pub EndsInt : ℕ → ℕ → List Row → Type 0
@@ -115,21 +115,19 @@ module _ (s : ℕ → Sort) where
       cond_both (leb (most * 2 ^ i) (top k)) [] (Rem (at + 1) size ∷ []) (λ t. EndsInt at at (Number (2 ^ i) ∷ Times a at ∷ t)) (λ t h. h 1 (lit< tt)) (λ t h. h 2 (lit< tt))
 
   pub sounds : (op : Operator) (o : Operands) (at : ℕ) → Suited s at op o → Sounds at (rows_of op o at)
-  sounds BvNeg o at f = let fa = f.operands in spared at (Number (2 ^ o.k) ∷ Sub at o.a ∷ []) (Rem (at + 1) at ∷ []) (leb 1 o.left.least) (λ h. search arith) (λ h. search arith)
-  sounds BvAdd o at f = let g = f.operands in spared at (Add o.a o.b ∷ []) (Number (2 ^ o.k) ∷ Rem at (at + 1) ∷ []) (leb (o.left.most + o.right.most) (top o.k)) (λ h. search arith) (λ h. search arith)
-  sounds BvSub o at f = let g = f.operands in spared at (Sub o.a o.b ∷ []) (Number (2 ^ o.k) ∷ Rem at (at + 1) ∷ []) (leb o.right.most o.left.least) (λ h. search arith) (λ h. search arith)
-  sounds BvMul o at f = let g = f.operands in spared at (Times o.a o.b ∷ []) (Number (2 ^ o.k) ∷ Rem at (at + 1) ∷ []) (leb (o.left.most * o.right.most) (top o.k)) (λ h. search arith) (λ h. search arith)
+  sounds BvNeg o at f = let fa = f.operands in with_rest at (Number (2 ^ o.k) ∷ Sub at o.a ∷ []) (Rem (at + 1) at ∷ []) (spared BvNeg o) (λ h. search arith) (λ h. search arith)
+  sounds BvAdd o at f = let g = f.operands in with_rest at (Add o.a o.b ∷ []) (Number (2 ^ o.k) ∷ Rem at (at + 1) ∷ []) (spared BvAdd o) (λ h. search arith) (λ h. search arith)
+  sounds BvSub o at f = let g = f.operands in with_rest at (Sub o.a o.b ∷ []) (Number (2 ^ o.k) ∷ Rem at (at + 1) ∷ []) (spared BvSub o) (λ h. search arith) (λ h. search arith)
+  sounds BvMul o at f = let g = f.operands in with_rest at (Times o.a o.b ∷ []) (Number (2 ^ o.k) ∷ Rem at (at + 1) ∷ []) (spared BvMul o) (λ h. search arith) (λ h. search arith)
   sounds BvUdiv o at f =
       let g = f.operands in
-      either at (leb 1 o.right.least) (Quot o.a o.b ∷ []) (Number 0 ∷ Equal o.b at ∷ Number (top o.k) ∷ Quot o.a o.b ∷ Choose sort.Int (at + 1) (at + 2) (at + 3) ∷ [])
-      (λ h. search arith) (λ h. search arith)
+      either at (spared BvUdiv o) _ _ (λ h. search arith) (λ h. search arith)
   sounds BvUrem o at f =
       let g = f.operands in
-      either at (leb 1 o.right.least) (Rem o.a o.b ∷ []) (Number 0 ∷ Equal o.b at ∷ Rem o.a o.b ∷ Choose sort.Int (at + 1) o.a (at + 2) ∷ [])
-      (λ h. search arith) (λ h. search arith)
+      either at (spared BvUrem o) _ _ (λ h. search arith) (λ h. search arith)
   sounds (Extract u l) o at f =
       let g = f.operands in
-      spared at (Number (2 ^ l) ∷ Quot o.a at ∷ []) (Number (2 ^ (u - l + 1)) ∷ Rem (at + 1) (at + 2) ∷ []) (ltb (o.left.most / 2 ^ l) (2 ^ (u - l + 1))) (λ h. search arith) (λ h. search arith)
+      with_rest at (Number (2 ^ l) ∷ Quot o.a at ∷ []) (Number (2 ^ (u - l + 1)) ∷ Rem (at + 1) (at + 2) ∷ []) (spared (Extract u l) o) (λ h. search arith) (λ h. search arith)
   sounds BvLshr o at f = λ h.
       let g = f.operands in
       let rest : List Row = shift_rows (right_rows o.a) o.b o.k at (at + 1) in
@@ -145,7 +143,7 @@ module _ (s : ℕ → Sort) where
       let size : s (at + 1) ≡ sort.Int = h 1 (omega arith) in
       each_join (RowSound s) at (at + 2) two rest refl (all_each (RowSound s) at two (tt, (tt, tt)))
       (shift_sound moved o.b (λ i p. omega arith) (left_ends o.k o.left.most (at + 1) o.a) (at + 2) (omega (arith, g.1.0), g.1.1)
-      (λ i p le. spared p (Number (2 ^ i) ∷ Times o.a p ∷ []) (Rem (p + 1) (at + 1) ∷ []) (leb (o.left.most * 2 ^ i) (top o.k)) (λ t. search arith) (λ t. search arith))
+      (λ i p le. with_rest p (Number (2 ^ i) ∷ Times o.a p ∷ []) (Rem (p + 1) (at + 1) ∷ []) (leb (o.left.most * 2 ^ i) (top o.k)) (λ t. search arith) (λ t. search arith))
       o.k at (at + 2) (omega arith) (omega arith, h 0 (omega arith)) (each_back (HasSort s) at (at + 2) two rest refl h))
   sounds BvUlt o at f = let g = f.operands in from at (rows_of BvUlt o at) (λ h. search arith)
   sounds BvUle o at f = let g = f.operands in from at (rows_of BvUle o at) (λ h. search arith)
@@ -158,7 +156,7 @@ module _ (s : ℕ → Sort) where
   sounds Concat o at f = let g = f.operands in from at (rows_of Concat o at) (λ h. search arith)
   sounds BvOr o at f = let g = f.operands in let fc = f.unknown refl in from at (rows_of BvOr o at) (λ h. search arith)
   sounds BvXor o at f = let g = f.operands in let fc = f.unknown refl in from at (rows_of BvXor o at) (λ h. search arith)
-  sounds BvAnd o at f = let g = f.operands in from at (rows_of BvAnd o at) (λ h. search arith)
+  sounds BvAnd o at f = from at [] (λ h. tt)
   sounds Ite o at f = let g = f.operands in from at (rows_of Ite o at) (λ h. search arith)
   sounds Implies o at f = let g = f.operands in from at (rows_of Implies o at) (λ h. search arith)
   sounds op.TheVariants.Equal o at f = let g = f.operands in from at (rows_of op.TheVariants.Equal o at) (λ h. search arith)

@@ -1,11 +1,11 @@
 -- What is known of operands that an operator takes: one lemma for each shape.
-use Rattle.std.proofs.Common.{◌≡◌, ℕ, ◌^◌, ◌<◌, ◌≤◌, Bool, true, false, cond, ◌&&◌, eqb, ltb, leb, List, pos, sym, refl, ◌∙◌}
+use Rattle.std.proofs.Common.{◌≡◌, ℕ, ◌^◌, ◌<◌, ◌≤◌, Bool, true, false, ◌&&◌, eqb, ltb, leb, List, pos, sym, refl, ◌∙◌}
 use Rattle.std.proofs.lemmas.Bool.{and_parts, false≢true, ltb-true, leb-true, eqb-true}
 use Rattle.source.specs.declared.order.Sort as source_sort
 use Rattle.source.specs.declared.value.Value.{Value}
 use Rattle.source.specs.declared.value.Value.TheVariants as value
 use Rattle.source.specs.Widths.{is_width}
-use Rattle.source.specs.Sorts.{is_bits, is_bool, alike, width_of, fits, one_bits, two_bits, any_bits, two_truths, two_alike, choice}
+use Rattle.source.specs.Sorts.{is_bits, is_bool, alike, width_of, Shape, fits, one_bits, two_bits, any_bits, one_truth, two_truths, two_alike, choice}
 use Rattle.source.specs.Values.{sort_of, is_value, number_of, truth_of, bits_of, are_values}
 use Rattle.target.specs.Values.{Val, int, bool, same, value_at}
 use Rattle.rows.specs.declared.operands.Range.{Range}
@@ -30,10 +30,6 @@ same_shown (value.Bool false) (value.Bool false) e = refl
 same_shown (value.Bool b) (value.Bits j n) e = absurd (false≢true e)
 same_shown (value.Bits k m) (value.Bool b) e = absurd (false≢true e)
 same_shown (value.Bits k m) (value.Bits j n) e = refl
-
-pub shown_choice : (q : Bool) (v w : Value) → cond q (shown v) (shown w) ≡ shown (cond q v w)
-shown_choice true v w = refl
-shown_choice false v w = refl
 
 alike_bits : (a b : source_sort.Sort) → is_bits a ≡ true → alike a b ≡ true → (is_bits b ≡ true) × (width_of a ≡ width_of b)
 alike_bits source_sort.TheVariants.Bool b e f = absurd (false≢true e)
@@ -63,21 +59,28 @@ known vs row k r (value.Bits j n) iv ib g =
     }
 
 module _ (vs : List Val) (o : Operands) (va vb vc : Value) where
+  -- operands that are taken: they are values, and of the sorts of the shape
+  taken_parts : (n : ℕ) (shape : Shape) (rest : Bool) → are_values n va vb vc && (fits shape (sort_of va) (sort_of vb) (sort_of vc) && rest) ≡ true →
+      (are_values n va vb vc ≡ true) × (fits shape (sort_of va) (sort_of vb) (sort_of vc) ≡ true)
+  taken_parts n shape rest t =
+      let p = and_parts (are_values n va vb vc) _ t in
+      (p.0, (and_parts (fits shape (sort_of va) (sort_of vb) (sort_of vc)) rest p.1).0)
+
   -- one operand of bits
   pub one_of : (rest : Bool) → are_values 1 va vb vc && (fits one_bits (sort_of va) (sort_of vb) (sort_of vc) && rest) ≡ true →
       Operand vs o.a o.k o.left va → Known vs o.a o.k o.left va
   one_of rest t ga =
-      let p = and_parts (are_values 1 va vb vc) (is_bits (sort_of va) && rest) t in
-      known vs o.a o.k o.left va (and_parts (is_value va) _ p.0).0 (and_parts (is_bits (sort_of va)) rest p.1).0 ga
+      let p = taken_parts 1 one_bits rest t in
+      known vs o.a o.k o.left va (and_parts (is_value va) _ p.0).0 p.1 ga
 
   -- two of one width
-  pub two_of : (rest : Bool) → are_values 2 va vb vc && (fits two_bits (sort_of va) (sort_of vb) (sort_of vc) && rest) ≡ true →
+  pub two_of : are_values 2 va vb vc && (fits two_bits (sort_of va) (sort_of vb) (sort_of vc) && true) ≡ true →
       Operand vs o.a o.k o.left va → Operand vs o.b o.j o.right vb →
       Known vs o.a o.k o.left va × Known vs o.b o.k o.right vb
-  two_of rest t ga gb =
-      let p = and_parts (are_values 2 va vb vc) (fits two_bits (sort_of va) (sort_of vb) (sort_of vc) && rest) t in
+  two_of t ga gb =
+      let p = taken_parts 2 two_bits true t in
       let v = and_parts (is_value va) (is_value vb && true) p.0 in
-      let f = and_parts (is_bits (sort_of va)) (alike (sort_of va) (sort_of vb)) (and_parts (fits two_bits (sort_of va) (sort_of vb) (sort_of vc)) rest p.1).0 in
+      let f = and_parts (is_bits (sort_of va)) (alike (sort_of va) (sort_of vb)) p.1 in
       let l = alike_bits (sort_of va) (sort_of vb) f.0 f.1 in
       let wide : o.k ≡ bits_of vb = ga.wide ∙ sym (width_of_lem va) ∙ l.1 ∙ width_of_lem vb in (
         known vs o.a o.k o.left va v.0 f.0 ga,
@@ -89,34 +92,24 @@ module _ (vs : List Val) (o : Operands) (va vb vc : Value) where
       Operand vs o.a o.k o.left va → Operand vs o.b o.j o.right vb →
       (value_at vs o.a ≡ int (pos (number_of va))) × (value_at vs o.b ≡ int (pos (number_of vb)))
   any_of rest t ga gb =
-      let p = and_parts (are_values 2 va vb vc) (fits any_bits (sort_of va) (sort_of vb) (sort_of vc) && rest) t in
-      let f = and_parts (is_bits (sort_of va)) (is_bits (sort_of vb)) (and_parts (fits any_bits (sort_of va) (sort_of vb) (sort_of vc)) rest p.1).0 in
+      let f = and_parts (is_bits (sort_of va)) (is_bits (sort_of vb)) (taken_parts 2 any_bits rest t).1 in
       (ga.value ∙ shown_bits va f.0, gb.value ∙ shown_bits vb f.1)
 
   -- truth values
-  pub truth_of_lem : (n : ℕ) (rest : Bool) → are_values n va vb vc && ((is_bool (sort_of va)) && rest) ≡ true → Operand vs o.a o.k o.left va → value_at vs o.a ≡ bool (truth_of va)
-  truth_of_lem n rest t ga =
-      let p = and_parts (are_values n va vb vc) (is_bool (sort_of va) && rest) t in
-      ga.value ∙ shown_truth va (and_parts (is_bool (sort_of va)) rest p.1).0
+  pub truth_of_lem : are_values 1 va vb vc && (fits one_truth (sort_of va) (sort_of vb) (sort_of vc) && true) ≡ true → Operand vs o.a o.k o.left va → value_at vs o.a ≡ bool (truth_of va)
+  truth_of_lem t ga = ga.value ∙ shown_truth va (taken_parts 1 one_truth true t).1
 
-  pub truths_of : (rest : Bool) → are_values 2 va vb vc && (fits two_truths (sort_of va) (sort_of vb) (sort_of vc) && rest) ≡ true →
+  pub truths_of : are_values 2 va vb vc && (fits two_truths (sort_of va) (sort_of vb) (sort_of vc) && true) ≡ true →
       Operand vs o.a o.k o.left va → Operand vs o.b o.j o.right vb →
       (value_at vs o.a ≡ bool (truth_of va)) × (value_at vs o.b ≡ bool (truth_of vb))
-  truths_of rest t ga gb =
-      let p = and_parts (are_values 2 va vb vc) (fits two_truths (sort_of va) (sort_of vb) (sort_of vc) && rest) t in
-      let f = and_parts (is_bool (sort_of va)) (is_bool (sort_of vb)) (and_parts (fits two_truths (sort_of va) (sort_of vb) (sort_of vc)) rest p.1).0 in
+  truths_of t ga gb =
+      let f = and_parts (is_bool (sort_of va)) (is_bool (sort_of vb)) (taken_parts 2 two_truths true t).1 in
       (ga.value ∙ shown_truth va f.0, gb.value ∙ shown_truth vb f.1)
 
   -- two of one sort
-  pub alike_of : (rest : Bool) → are_values 2 va vb vc && (fits two_alike (sort_of va) (sort_of vb) (sort_of vc) && rest) ≡ true → alike (sort_of va) (sort_of vb) ≡ true
-  alike_of rest t =
-      let p = and_parts (are_values 2 va vb vc) (fits two_alike (sort_of va) (sort_of vb) (sort_of vc) && rest) t in
-      (and_parts (alike (sort_of va) (sort_of vb)) rest p.1).0
+  pub alike_of : are_values 2 va vb vc && (fits two_alike (sort_of va) (sort_of vb) (sort_of vc) && true) ≡ true → alike (sort_of va) (sort_of vb) ≡ true
+  alike_of t = (taken_parts 2 two_alike true t).1
 
   -- the condition of a choice
-  pub choice_of : (rest : Bool) → are_values 3 va vb vc && (fits choice (sort_of va) (sort_of vb) (sort_of vc) && rest) ≡ true →
-      Operand vs o.a o.k o.left va → value_at vs o.a ≡ bool (truth_of va)
-  choice_of rest t ga =
-      let p = and_parts (are_values 3 va vb vc) (fits choice (sort_of va) (sort_of vb) (sort_of vc) && rest) t in
-      let f = and_parts (is_bool (sort_of va)) (alike (sort_of vb) (sort_of vc)) (and_parts (fits choice (sort_of va) (sort_of vb) (sort_of vc)) rest p.1).0 in
-      ga.value ∙ shown_truth va f.0
+  pub choice_of : are_values 3 va vb vc && (fits choice (sort_of va) (sort_of vb) (sort_of vc) && true) ≡ true → Operand vs o.a o.k o.left va → value_at vs o.a ≡ bool (truth_of va)
+  choice_of t ga = ga.value ∙ shown_truth va (and_parts (is_bool (sort_of va)) (alike (sort_of vb) (sort_of vc)) (taken_parts 3 choice true t).1).0

@@ -1,10 +1,10 @@
 -- How many rows and assertions an order takes.
-use Rattle.std.specs.Prelude.{◌≡◌, ℕ, zero, suc, ◌+◌, ◌-◌, ◌*◌, ◌/◌, ◌^◌, Bool, true, false, cond, List, length, nat_le, nat_lt}
+use Rattle.std.specs.Prelude.{◌≡◌, ℕ, zero, suc, ◌+◌, ◌*◌, ◌^◌, Bool, true, false, cond, List, length, nat_le}
 use Rattle.target.specs.declared.row.Row.{Row}
 use Rattle.source.specs.declared.operator.Operator.{Operator}
 use Rattle.source.specs.declared.operator.Operator.TheVariants.{BvNot, BvNeg, BvAdd, BvSub, BvMul, BvUdiv, BvUrem, Extract, Concat, BvAnd, BvOr, BvXor, BvLshr, BvShl, BvUlt, BvUle, BvUgt, BvUge, BvSlt, BvSle, BvSgt, BvSge, Equal, Not, And, Or, Ite, Implies}
 use Rattle.rows.specs.declared.operands.Operands.{Operands}
-use Rattle.rows.specs.Rows.{top, rows_of, and_rows}
+use Rattle.rows.specs.Rows.{top, spared, rows_of, and_rows}
 
 -- the rows that move to the left by each of n amounts
 abbrev pub left_count : ℕ → ℕ → ℕ → ℕ
@@ -14,13 +14,13 @@ left_count k most (suc i) = left_count k most i + cond (nat_le (most * 2 ^ i) (t
 -- the rows of an operator, without those of an and-unknown and an and-scheme
 abbrev pub own_count : Operator → Operands → ℕ
 own_count BvNot o = 4
-own_count BvNeg o = cond (nat_le 1 o.left.least) 2 3
-own_count BvAdd o = cond (nat_le (o.left.most + o.right.most) (top o.k)) 1 3
-own_count BvSub o = cond (nat_le o.right.most o.left.least) 1 3
-own_count BvMul o = cond (nat_le (o.left.most * o.right.most) (top o.k)) 1 3
-own_count BvUdiv o = cond (nat_le 1 o.right.least) 1 5
-own_count BvUrem o = cond (nat_le 1 o.right.least) 1 4
-own_count (Extract u l) o = cond (nat_lt (o.left.most / 2 ^ l) (2 ^ (u - l + 1))) 2 4
+own_count BvNeg o = cond (spared BvNeg o) 2 3
+own_count BvAdd o = cond (spared BvAdd o) 1 3
+own_count BvSub o = cond (spared BvSub o) 1 3
+own_count BvMul o = cond (spared BvMul o) 1 3
+own_count BvUdiv o = cond (spared BvUdiv o) 1 5
+own_count BvUrem o = cond (spared BvUrem o) 1 4
+own_count (Extract u l) o = cond (spared (Extract u l) o) 2 4
 own_count Concat o = 3
 own_count BvAnd o = 0
 own_count BvOr o = 5
@@ -47,31 +47,7 @@ abbrev pub has_and : Operator → Bool
 has_and BvAnd = true
 has_and BvOr = true
 has_and BvXor = true
-has_and BvNot = false
-has_and BvNeg = false
-has_and BvAdd = false
-has_and BvSub = false
-has_and BvMul = false
-has_and BvUdiv = false
-has_and BvUrem = false
-has_and (Extract u l) = false
-has_and Concat = false
-has_and BvLshr = false
-has_and BvShl = false
-has_and BvUlt = false
-has_and BvUle = false
-has_and BvUgt = false
-has_and BvUge = false
-has_and BvSlt = false
-has_and BvSle = false
-has_and BvSgt = false
-has_and BvSge = false
-has_and Equal = false
-has_and Not = false
-has_and And = false
-has_and Or = false
-has_and Ite = false
-has_and Implies = false
+has_and _ = false
 
 -- all rows of an operator: those of an and-unknown and an and-scheme that adds `size` rows come first
 abbrev pub row_count : Operator → Operands → ℕ → ℕ

@@ -2,6 +2,5 @@ pub mod Operands
 pub mod Rows
 pub mod Counts
 pub mod Limits
-pub mod Moves
 pub mod Law
 pub mod Ands

@@ -2,7 +2,7 @@
 --
 -- An order's rows stand from the index `at` on. Of the operands `o`, the images are o.a, o.b and o.c, the width of
 -- the first is o.k and that of the second o.j, and the numbers of both lie within o.left and o.right.
-use Rattle.std.specs.Prelude.{ℕ, zero, suc, ◌+◌, ◌-◌, ◌*◌, ◌/◌, ◌^◌, Bool, cond, List, [], ◌∷◌, ◌++◌, length, nat_le, nat_lt}
+use Rattle.std.specs.Prelude.{ℕ, zero, suc, ◌+◌, ◌-◌, ◌*◌, ◌/◌, ◌^◌, Bool, false, cond, List, [], ◌∷◌, ◌++◌, length, nat_le, nat_lt}
 use Rattle.source.specs.declared.operator.Operator as op
 use Rattle.source.specs.declared.operator.Operator.{Operator}
 use Rattle.source.specs.declared.operator.Operator.TheVariants.{BvNot, BvNeg, BvAdd, BvSub, BvMul, BvUdiv, BvUrem, Extract, Concat, BvAnd, BvOr, BvXor, BvLshr, BvShl, BvUlt, BvUle, BvUgt, BvUge, BvSlt, BvSle, BvSgt, BvSge, Ite, Implies}
@@ -37,9 +37,26 @@ unless test rows = cond test [] rows
 abbrev pub reduced : Row → Bool → ℕ → ℕ → List Row
 reduced row within k at = row ∷ unless within (Number (2 ^ k) ∷ Rem at (at + 1) ∷ [])
 
+-- A division; unless the divisor b cannot be 0, whether it is, and the choice of the row `other` where it is. The rows
+-- `before` are those that `other` needs.
+abbrev pub guarded_rows : Row → List Row → ℕ → ℕ → Bool → ℕ → List Row
+guarded_rows division before other b above at =
+    cond above (division ∷ [])
+    (Number 0 ∷ Equal b at ∷ (before ++ (division ∷ Choose sort.TheVariants.Int (at + 1) other (at + (2 + length before)) ∷ [])))
+
 -- 2 ^ l and the quotient by it, then 2 ^ n and the remainder by that, unless the quotient stays below it
-abbrev pub extract_rows : ℕ → ℕ → ℕ → ℕ → ℕ → List Row
-extract_rows l n most a at = Number (2 ^ l) ∷ Quot a at ∷ unless (nat_lt (most / 2 ^ l) (2 ^ n)) (Number (2 ^ n) ∷ Rem (at + 1) (at + 2) ∷ [])
+abbrev pub extract_rows : ℕ → ℕ → Bool → ℕ → ℕ → List Row
+extract_rows l n below a at = Number (2 ^ l) ∷ Quot a at ∷ unless below (Number (2 ^ n) ∷ Rem (at + 1) (at + 2) ∷ [])
+
+-- the row by which a comparison, unsigned or signed, compares the rows a and b; other operators have none
+abbrev pub compared : Operator → ℕ → ℕ → Row
+compared BvUlt a b = Less a b
+compared BvSlt a b = Less a b
+compared BvUle a b = AtMost a b
+compared BvSle a b = AtMost a b
+compared BvUgt a b = Less b a
+compared BvSgt a b = Less b a
+compared _ a b = AtMost b a
 
 -- 2 ^ (k − 1) and 2; then the signed number of a, at + 4, and that of b, at + 7: twice the remainder by 2 ^ (k − 1), minus the operand
 abbrev pub signed_rows : ℕ → ℕ → ℕ → ℕ → List Row
@@ -73,34 +90,42 @@ right_rows a i at = Number (2 ^ i) ∷ Quot a at ∷ []
 abbrev pub left_rows : ℕ → ℕ → ℕ → ℕ → ℕ → ℕ → List Row
 left_rows k most size a i at = Number (2 ^ i) ∷ Times a at ∷ unless (nat_le (most * 2 ^ i) (top k)) (Rem (at + 1) size ∷ [])
 
+-- Whether the bounds show that the rows which correct an operation would change nothing: it stays within its bits, or
+-- the divisor is not 0. Other operators have no such rows.
+abbrev pub spared : Operator → Operands → Bool
+spared BvNeg o = nat_le 1 o.left.least
+spared BvAdd o = nat_le (o.left.most + o.right.most) (top o.k)
+spared BvSub o = nat_le o.right.most o.left.least
+spared BvMul o = nat_le (o.left.most * o.right.most) (top o.k)
+spared BvUdiv o = nat_le 1 o.right.least
+spared BvUrem o = nat_le 1 o.right.least
+spared (Extract u l) o = nat_lt (o.left.most / 2 ^ l) (2 ^ (u - l + 1))
+spared _ o = false
+
 -- The rows of an operator. Of bvand, bvor and bvxor they are those after the and-scheme's, and o.c is the and-unknown.
 abbrev pub rows_of : Operator → Operands → ℕ → List Row
 rows_of BvNot o at = Number 1 ∷ Add o.a at ∷ Number (2 ^ o.k) ∷ Sub (at + 2) (at + 1) ∷ []
-rows_of BvNeg o at = Number (2 ^ o.k) ∷ Sub at o.a ∷ unless (nat_le 1 o.left.least) (Rem (at + 1) at ∷ [])
-rows_of BvAdd o at = reduced (Add o.a o.b) (nat_le (o.left.most + o.right.most) (top o.k)) o.k at
-rows_of BvSub o at = reduced (Sub o.a o.b) (nat_le o.right.most o.left.least) o.k at
-rows_of BvMul o at = reduced (Times o.a o.b) (nat_le (o.left.most * o.right.most) (top o.k)) o.k at
-rows_of BvUdiv o at =
-    cond (nat_le 1 o.right.least) (Quot o.a o.b ∷ [])
-    (Number 0 ∷ Equal o.b at ∷ Number (top o.k) ∷ Quot o.a o.b ∷ Choose sort.TheVariants.Int (at + 1) (at + 2) (at + 3) ∷ [])
-rows_of BvUrem o at =
-    cond (nat_le 1 o.right.least) (Rem o.a o.b ∷ [])
-    (Number 0 ∷ Equal o.b at ∷ Rem o.a o.b ∷ Choose sort.TheVariants.Int (at + 1) o.a (at + 2) ∷ [])
-rows_of (Extract u l) o at = extract_rows l (u - l + 1) o.left.most o.a at
+rows_of BvNeg o at = Number (2 ^ o.k) ∷ Sub at o.a ∷ unless (spared BvNeg o) (Rem (at + 1) at ∷ [])
+rows_of BvAdd o at = reduced (Add o.a o.b) (spared BvAdd o) o.k at
+rows_of BvSub o at = reduced (Sub o.a o.b) (spared BvSub o) o.k at
+rows_of BvMul o at = reduced (Times o.a o.b) (spared BvMul o) o.k at
+rows_of BvUdiv o at = guarded_rows (Quot o.a o.b) (Number (top o.k) ∷ []) (at + 2) o.b (spared BvUdiv o) at
+rows_of BvUrem o at = guarded_rows (Rem o.a o.b) [] o.a o.b (spared BvUrem o) at
+rows_of (Extract u l) o at = extract_rows l (u - l + 1) (spared (Extract u l) o) o.a at
 rows_of Concat o at = Number (2 ^ o.j) ∷ Times o.a at ∷ Add (at + 1) o.b ∷ []
 rows_of BvAnd o at = []
 rows_of BvOr o at = or_rows o.k o.a o.b o.c at
 rows_of BvXor o at = or_rows o.k o.a o.b o.c at ++ (Sub (at + 4) o.c ∷ Rem (at + 5) (at + 1) ∷ [])
 rows_of BvLshr o at = Number 0 ∷ shift_rows (right_rows o.a) o.b o.k at (at + 1)
 rows_of BvShl o at = Number 0 ∷ Number (2 ^ o.k) ∷ shift_rows (left_rows o.k o.left.most (at + 1) o.a) o.b o.k at (at + 2)
-rows_of BvUlt o at = Less o.a o.b ∷ []
-rows_of BvUle o at = AtMost o.a o.b ∷ []
-rows_of BvUgt o at = Less o.b o.a ∷ []
-rows_of BvUge o at = AtMost o.b o.a ∷ []
-rows_of BvSlt o at = signed_rows o.k o.a o.b at ++ (Less (at + 4) (at + 7) ∷ [])
-rows_of BvSle o at = signed_rows o.k o.a o.b at ++ (AtMost (at + 4) (at + 7) ∷ [])
-rows_of BvSgt o at = signed_rows o.k o.a o.b at ++ (Less (at + 7) (at + 4) ∷ [])
-rows_of BvSge o at = signed_rows o.k o.a o.b at ++ (AtMost (at + 7) (at + 4) ∷ [])
+rows_of BvUlt o at = compared BvUlt o.a o.b ∷ []
+rows_of BvUle o at = compared BvUle o.a o.b ∷ []
+rows_of BvUgt o at = compared BvUgt o.a o.b ∷ []
+rows_of BvUge o at = compared BvUge o.a o.b ∷ []
+rows_of BvSlt o at = signed_rows o.k o.a o.b at ++ (compared BvSlt (at + 4) (at + 7) ∷ [])
+rows_of BvSle o at = signed_rows o.k o.a o.b at ++ (compared BvSle (at + 4) (at + 7) ∷ [])
+rows_of BvSgt o at = signed_rows o.k o.a o.b at ++ (compared BvSgt (at + 4) (at + 7) ∷ [])
+rows_of BvSge o at = signed_rows o.k o.a o.b at ++ (compared BvSge (at + 4) (at + 7) ∷ [])
 rows_of op.TheVariants.Equal o at = Equal o.a o.b ∷ []
 rows_of op.TheVariants.Not o at = Not o.a ∷ []
 rows_of op.TheVariants.And o at = And o.a o.b ∷ []

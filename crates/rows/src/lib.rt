@@ -12,12 +12,13 @@
 #![tactic(auto)]
 
 pub mod ands;
+mod application;
 pub mod count;
 pub mod limits;
 pub mod operands;
 pub mod order;
+mod power;
 mod put;
 pub mod register;
 mod shift;
-mod spare;
 mod write;

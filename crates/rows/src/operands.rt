@@ -5,14 +5,14 @@ ghost use Rattle.rows.specs.Operands.{with_third};
 use target::row::Sort;
 
 // What is known of a number: it is from `least` to `most`.
-#[derive(Clone, Copy)]
+#[derive(Clone, Copy, PartialEq, Eq, Debug)]
 pub struct Range {
     pub least: u64,
     pub most: u64,
 }
 
 // The operands of an order. Where an operator has fewer than three, what is said of the others is not looked at.
-#[derive(Clone, Copy)]
+#[derive(Clone, Copy, PartialEq, Eq, Debug)]
 pub struct Operands {
     // their images; of bvor and bvxor the third is the and-unknown
     pub a: usize,
@@ -33,15 +33,6 @@ impl Operands {
     pub(crate) fn with_third(self, c: usize) -> Operands
         ensures { result ≡ with_third self c }
     {
-        Operands {
-            a: self.a,
-            b: self.b,
-            c,
-            k: self.k,
-            j: self.j,
-            sort: self.sort,
-            left: self.left,
-            right: self.right,
-        }
+        Operands { c, ..self }
     }
 }

@@ -1,75 +1,111 @@
-// The rows of the shifts.
-ghost use Rattle.std.specs.Prelude.{◌≡◌, ◌+◌, ◌<◌, ◌≤◌, length};
+// The rows of the shifts, at an index of the slice that the caller supplies.
+ghost use Rattle.std.specs.Prelude.{◌≡◌, ℕ, ◌+◌, ◌≤◌, List, length};
+ghost use Rattle.target.specs.declared.row.Row.{Row};
 ghost use Rattle.target.specs.Tables.{laid};
-ghost use Rattle.rows.specs.Rows.{amount_rows, shift_rows};
-ghost use Rattle.rows.specs.Moves.{moved_by, MoveLimited};
+ghost use Rattle.rows.specs.Rows.{amount_rows, shift_rows, right_rows, left_rows};
 
+use crate::application::Application;
+use crate::power::Power;
 use crate::put::{put, put_unless};
-use crate::spare::{moved_within, power};
 use target::row::{Row, Sort};
 
-// How a shift moves the row a: to the right; or to the left within k bits, where 2^k is the row `size` and the
-// number of a is at most `most`.
+// How a shift moves its operand.
+pub(crate) trait Move {
+    // the rows that move it, by the number of places and the index of the first of them
+    ghost moved_by: { Self → ℕ → ℕ → List Row };
+
+    // Writes the rows that move it by so many places, and answers the index after them.
+    fn put_moved(&self, rows: &mut [Row], at: usize, by: Power) -> usize
+        requires { at + length (moved_by self.now by.exponent at) ≤ length rows.old }
+        ensures table { rows.new ≡ laid rows.old at (moved_by self.now by.exponent at) }
+        ensures next { result ≡ at + length (moved_by self.now by.exponent at) };
+}
+
+// To the right.
 #[derive(Clone, Copy)]
-pub(crate) enum Move {
-    Right(usize),
-    Left(u32, u64, usize, usize),
+pub(crate) struct Right {
+    pub(crate) a: usize,
 }
 
-// The row a moved by i places.
-fn put_moved(rows: &mut [Row], at: usize, how: Move, i: u32) -> usize
-    requires { (i < 32) × ((MoveLimited how) × (at + length (moved_by how i at) ≤ length rows.old)) }
-    ensures table { rows.new ≡ laid rows.old at (moved_by how i at) }
-    ensures next { result ≡ at + length (moved_by how i at) }
-{
-    let weight = Row::Number(power(i));
-    match how {
-        Move::Right(a) => put(rows, at, &[weight, Row::Quot(a, at)]),
-        Move::Left(k, most, size, a) => {
-            put_unless(
-                rows,
-                at,
-                &[weight, Row::Times(a, at)],
-                moved_within(most, i, k),
-                &[Row::Rem(at + 1, size)],
-            )
+impl Move for Right {
+    ghost moved_by = { λ s. right_rows s.a };
+
+    fn put_moved(&self, rows: &mut [Row], at: usize, by: Power) -> usize {
+        put(rows, at, &[by.row(), Row::Quot(self.a, at)])
+    }
+}
+
+// To the left within its k bits, where 2^k is the row `size`.
+#[derive(Clone, Copy)]
+pub(crate) struct Left {
+    pub(crate) shift: Application,
+    pub(crate) size: usize,
+}
+
+impl Move for Left {
+    ghost moved_by = { λ s. left_rows s.shift.o.k s.shift.o.left.most s.size s.shift.o.a };
+
+    fn put_moved(&self, rows: &mut [Row], at: usize, by: Power) -> usize {
+        put_unless(
+            rows,
+            at,
+            &[by.row(), Row::Times(self.shift.o.a, at)],
+            self.shift.stays(by),
+            &[Row::Rem(at + 1, self.size)],
+        )
+    }
+}
+
+impl Application {
+    // One shift amount: whether the second operand is that, and the first moved by so many places if it is, or else the
+    // former choice.
+    fn put_amount<M: Move>(
+        self,
+        how: &M,
+        rows: &mut [Row],
+        at: usize,
+        by: Power,
+        former: usize,
+    ) -> usize
+        requires { at + length (amount_rows (M.moved_by how.now) self.o.b by.exponent former at) ≤ length rows.old }
+        ensures table { rows.new ≡ laid rows.old at (amount_rows (M.moved_by how.now) self.o.b by.exponent former at) }
+        ensures next { result ≡ at + length (amount_rows (M.moved_by how.now) self.o.b by.exponent former at) }
+    {
+        put(
+            rows,
+            at,
+            &[
+                Row::Number(u64::from(by.exponent)),
+                Row::Equal(self.o.b, at),
+            ],
+        );
+        let next = how.put_moved(rows, at + 2, by);
+        put(
+            rows,
+            next,
+            &[Row::Choose(Sort::Int, at + 1, next - 1, former)],
+        )
+    }
+
+    // All shift amounts from k - 1 down to 0; the row `first` is the choice before them.
+    pub(crate) fn put_shift<M: Move>(
+        self,
+        how: &M,
+        rows: &mut [Row],
+        at: usize,
+        first: usize,
+    ) -> usize
+        requires { at + length (shift_rows (M.moved_by how.now) self.o.b self.o.k first at) ≤ length rows.old }
+        ensures table { rows.new ≡ laid rows.old at (shift_rows (M.moved_by how.now) self.o.b self.o.k first at) }
+        ensures next { result ≡ at + length (shift_rows (M.moved_by how.now) self.o.b self.o.k first at) }
+    {
+        let mut former = first;
+        let mut next = at;
+        // i is the amount that the rows test, and each choice names the one before
+        for i in (0..self.o.k).rev() {
+            next = self.put_amount(how, rows, next, Power { exponent: i }, former);
+            former = next - 1;
         }
+        next
     }
-}
-
-// One shift amount i: whether the row b is i, and the row a moved by i places if it is, or else the former choice.
-fn put_amount(rows: &mut [Row], at: usize, how: Move, b: usize, i: u32, former: usize) -> usize
-    requires { (i < 32) × ((MoveLimited how) × (at + length (amount_rows (moved_by how) b i former at) ≤ length rows.old)) }
-    ensures table { rows.new ≡ laid rows.old at (amount_rows (moved_by how) b i former at) }
-    ensures next { result ≡ at + length (amount_rows (moved_by how) b i former at) }
-{
-    put(rows, at, &[Row::Number(i as u64), Row::Equal(b, at)]);
-    let next = put_moved(rows, at + 2, how, i);
-    put(
-        rows,
-        next,
-        &[Row::Choose(Sort::Int, at + 1, next - 1, former)],
-    )
-}
-
-// All shift amounts from k - 1 down to 0; the row `first` is the choice before them.
-pub(crate) fn put_shift(
-    rows: &mut [Row],
-    at: usize,
-    how: Move,
-    b: usize,
-    k: u32,
-    first: usize,
-) -> usize
-    requires { (k ≤ 32) × ((MoveLimited how) × (at + length (shift_rows (moved_by how) b k first at) ≤ length rows.old)) }
-    ensures table { rows.new ≡ laid rows.old at (shift_rows (moved_by how) b k first at) }
-    ensures next { result ≡ at + length (shift_rows (moved_by how) b k first at) }
-{
-    let mut former = first;
-    let mut next = at;
-    for i in (0..k).rev() {
-        next = put_amount(rows, next, how, b, i, former);
-        former = next - 1;
-    }
-    next
 }

@@ -1,6 +1,6 @@
 // What is tried.
 ghost use Rattle.std.specs.Prelude.{◌≡◌, true};
-ghost use Rattle.rows_tests.specs.Tried.{largest, between, left_tried, right_tried, tried, is_tried, Bounds};
+ghost use Rattle.rows_tests.specs.Tried.{largest, number_of, between, left_tried, right_tried, tried, is_tried, Bounds};
 
 use rows::operands::{Operands, Range};
 use source::operator::Operator;
@@ -41,13 +41,32 @@ pub const OPERATORS: [Operator; 32] = [
     Operator::Implies,
 ];
 
-fn top(k: u32) -> u64
-    ensures { result ≡ largest k }
-{
-    match k {
-        1 => 1,
-        4 => 15,
-        _ => 4294967295,
+// What is known of the numbers of two operands.
+#[derive(Clone, Copy, PartialEq, Eq, Debug)]
+pub enum Known {
+    // nothing
+    Nothing,
+    // both are 1
+    Ones,
+    // the first is the largest number
+    Largest,
+    // the second is 0
+    Zero,
+}
+
+pub const KNOWN: [Known; 4] = [Known::Nothing, Known::Ones, Known::Largest, Known::Zero];
+
+// The number under which it is printed.
+impl From<Known> for u8 {
+    ghost from_gives = { λ known n. n ≡ number_of known };
+
+    fn from(known: Known) -> u8 {
+        match known {
+            Known::Nothing => 0,
+            Known::Ones => 1,
+            Known::Largest => 2,
+            Known::Zero => 3,
+        }
     }
 }
 
@@ -57,45 +76,69 @@ fn range(least: u64, most: u64) -> Range
     Range { least, most }
 }
 
-// What is known of the first operand, of numbers up to `most`.
-fn left(most: u64, variant: u8) -> Range
-    ensures { result ≡ left_tried most variant }
-{
-    match variant {
-        1 => range(1, 1),
-        2 => range(most, most),
-        _ => range(0, most),
+impl Known {
+    // What that is for the first operand, of numbers up to `most`.
+    fn left(self, most: u64) -> Range
+        ensures { result ≡ left_tried most self }
+    {
+        match self {
+            Known::Nothing | Known::Zero => range(0, most),
+            Known::Ones => range(1, 1),
+            Known::Largest => range(most, most),
+        }
+    }
+
+    // And for the second.
+    fn right(self, most: u64) -> Range
+        ensures { result ≡ right_tried most self }
+    {
+        match self {
+            Known::Nothing | Known::Largest => range(0, most),
+            Known::Ones => range(1, 1),
+            Known::Zero => range(0, 0),
+        }
     }
 }
 
-// And of the second.
-fn right(most: u64, variant: u8) -> Range
-    ensures { result ≡ right_tried most variant }
+// The largest number of k bits; a width that is not tried is taken for 32.
+fn top(k: u32) -> u64
+    ensures { result ≡ largest k }
 {
-    match variant {
-        0 | 2 => range(0, most),
-        1 => range(1, 1),
-        _ => range(0, 0),
+    match k {
+        1 => 1,
+        4 => 15,
+        _ => u64::from(u32::MAX),
     }
 }
 
-// Two operands of k bits, the rows 1 and 2, and the row 3. The bounds: nothing is known; both are 1; the first is the
-// greatest number; the second is 0.
-pub fn operands(k: u32, variant: u8) -> Operands
-    ensures operands { result ≡ tried k variant }
-    ensures bounds { is_tried k ≡ true → Bounds k result.left × Bounds k result.right }
-{
-    let left = left(top(k), variant);
-    let right = right(top(k), variant);
-    let sort = if variant == 0 { Sort::Int } else { Sort::Bool };
-    Operands {
-        a: 1,
-        b: 2,
-        c: 3,
-        k,
-        j: k,
-        sort,
-        left,
-        right,
+// An operator at a width, with what is known of its operands.
+#[derive(Clone, Copy, PartialEq, Eq, Debug)]
+pub struct Case {
+    pub op: Operator,
+    pub k: u32,
+    pub known: Known,
+}
+
+impl Case {
+    // Two operands of k bits, the rows 1 and 2, and the row 3.
+    pub fn operands(self) -> Operands
+        ensures operands { result ≡ tried self.k self.known }
+        ensures bounds { is_tried self.k ≡ true → Bounds self.k result.left × Bounds self.k result.right }
+    {
+        let Case { k, known, .. } = self;
+        Operands {
+            a: 1,
+            b: 2,
+            c: 3,
+            k,
+            j: k,
+            sort: if known == Known::Nothing {
+                Sort::Int
+            } else {
+                Sort::Bool
+            },
+            left: known.left(top(k)),
+            right: known.right(top(k)),
+        }
     }
 }

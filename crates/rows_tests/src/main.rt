@@ -4,10 +4,9 @@
 
 mod cases;
 
-use cases::{OPERATORS, operands};
+use cases::{Case, KNOWN, Known, OPERATORS};
 use rows::ands::append_and;
 use rows::count::{assertion_count, row_count};
-use rows::operands::Operands;
 use rows::order::append;
 use rows::register::{append_register, append_value};
 use scheme::bitwise::Bitwise;
@@ -24,9 +23,7 @@ const AT: usize = 8;
 // Eight unknowns are in use.
 fn table() -> [Row; 512] {
     let mut rows = [Row::Truth(false); 512];
-    for i in 0..AT {
-        rows[i] = Row::Unknown;
-    }
+    rows[..AT].fill(Row::Unknown);
     rows
 }
 
@@ -38,11 +35,13 @@ fn show(rt: &HostRuntime, rows: &[Row], count: usize) -> io::Result<()> {
 }
 
 // The rows of an operator, and its image.
-fn show_order(rt: &HostRuntime, op: Operator, k: u32, variant: u8) -> io::Result<()> {
+fn show_order(rt: &HostRuntime, case: Case) -> io::Result<()> {
     let mut rows = table();
-    let o = operands(k, variant);
+    let Case { op, k, known } = case;
+    let o = case.operands();
+    let bounds = u8::from(known);
     let assertions = assertion_count(op);
-    println!(rt; "{op:?} of {k} bits, bounds {variant}, {assertions} assertions")?;
+    println!(rt; "{op:?} of {k} bits, bounds {bounds}, {assertions} assertions")?;
     match append(&mut rows, AT, op, o) {
         Some(image) => {
             let count = row_count(op, o, 0).unwrap_or(0);
@@ -54,15 +53,10 @@ fn show_order(rt: &HostRuntime, op: Operator, k: u32, variant: u8) -> io::Result
 }
 
 // The rows of bvand, bvor or bvxor with a scheme.
-fn show_and<S: Scheme>(
-    rt: &HostRuntime,
-    scheme: &S,
-    name: &str,
-    op: Operator,
-    k: u32,
-) -> io::Result<()> {
+fn show_and<S: Scheme>(rt: &HostRuntime, scheme: &S, name: &str, case: Case) -> io::Result<()> {
     let mut rows = table();
-    let o = operands(k, 0);
+    let Case { op, k, .. } = case;
+    let o = case.operands();
     let count = row_count(op, o, scheme.size_at(k)).unwrap_or(0);
     println!(rt; "{op:?} of {k} bits by {name}")?;
     match append_and(scheme, &mut rows, AT, op, o) {
@@ -78,8 +72,13 @@ fn show_and<S: Scheme>(
 
 fn show_ands(rt: &HostRuntime, op: Operator) -> io::Result<()> {
     for k in [1u32, 4, 32, 33] {
-        show_and(rt, &Sum, "sum", op, k)?;
-        show_and(rt, &Bitwise, "bitwise", op, k)?;
+        let case = Case {
+            op,
+            k,
+            known: Known::Nothing,
+        };
+        show_and(rt, &Sum, "sum", case)?;
+        show_and(rt, &Bitwise, "bitwise", case)?;
     }
     Ok(())
 }
@@ -88,7 +87,7 @@ fn show_ands(rt: &HostRuntime, op: Operator) -> io::Result<()> {
 fn show_others(rt: &HostRuntime) -> io::Result<()> {
     for k in [0u32, 1, 4, 32, 33] {
         let mut rows = table();
-        let granted = append_register(&mut rows, AT, k);
+        let granted = append_register(&mut rows, AT, k).is_some();
         println!(rt; "register of {k} bits {granted}")?;
         show(rt, &rows, 7)?;
     }
@@ -99,7 +98,7 @@ fn show_others(rt: &HostRuntime) -> io::Result<()> {
         Value::Bool(false),
     ] {
         let mut rows = table();
-        let granted = append_value(&mut rows, AT, v);
+        let granted = append_value(&mut rows, AT, v).is_some();
         println!(rt; "value {granted}")?;
         show(rt, &rows, 2)?;
     }
@@ -110,8 +109,8 @@ fn main(rt: HostRuntime) -> io::Result<()> {
     show_others(&rt)?;
     for op in OPERATORS {
         for k in [1u32, 4, 32] {
-            for variant in 0u8..4 {
-                show_order(&rt, op, k, variant)?;
+            for known in KNOWN {
+                show_order(&rt, Case { op, k, known })?;
             }
         }
     }

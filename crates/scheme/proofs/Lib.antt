@@ -1,6 +1,8 @@
 pub mod Turning
 pub mod Ands
 pub mod Digits
+pub mod Grounds
+pub mod Bits
 pub mod TurnLaws
 pub mod Fits
 pub mod Owed

@@ -1,47 +1,37 @@
 // Why an and-scheme refuses.
-ghost use Rattle.std.specs.Prelude.{◌≡◌, ◌<◌};
-ghost use Rattle.scheme.specs.Refusing.{is_bool, cause_of};
+ghost use Rattle.std.specs.Prelude.{◌+◌, ◌≤◌, min, length, OnOk};
+ghost use Rattle.scheme.specs.Refusing.{Checked};
 
-use refusal::Cause;
+use crate::lemma::Lemma;
+use refusal::{Cause, Refusal};
 use target::row::{Row, Sort};
 
-// Whether a sort is that of truth values.
-fn is_bool(sort: Sort) -> bool
-    ensures { result ≡ is_bool sort }
-{
-    match sort {
-        Sort::Int => false,
-        Sort::Bool => true,
-    }
-}
+// Refuses for the first cause there is, for a scheme that would add `size` rows. (The operands are tested by name, not
+// as a list: a closure over one would need a clause for each test.)
+pub fn check(rows: &[Row], size: usize, count: usize, lemma: Lemma) -> Result<(), Refusal>
+    ensures first { Checked size rows.now count lemma result }
 
-// The first cause there is to refuse, for a scheme that would add `size` rows.
-pub fn cause_of(
-    rows: &[Row],
-    size: usize,
-    count: usize,
-    k: u32,
-    a: usize,
-    b: usize,
-    c: usize,
-) -> Option<Cause>
-    ensures { result ≡ cause_of size rows.now count k a b c }
+    // Where it does not refuse, the rows fit.
+    ensures room { OnOk result (count + size ≤ min (length rows.now) 32768) }
 {
     if rows.len() < count {
-        return Some(Cause::TargetFull);
+        return Err(Cause::TargetFull.at(count));
     }
-    if a >= count || b >= count || c >= count {
-        return Some(Cause::Operand);
+    if lemma.a >= count || lemma.b >= count || lemma.c >= count {
+        return Err(Cause::Operand.at(count));
     }
-    if is_bool(rows[a].sort()) || is_bool(rows[b].sort()) || is_bool(rows[c].sort()) {
-        return Some(Cause::Sort);
+    if rows[lemma.a].sort() == Sort::Bool
+        || rows[lemma.b].sort() == Sort::Bool
+        || rows[lemma.c].sort() == Sort::Bool
+    {
+        return Err(Cause::Sort.at(count));
     }
-    if k < 1 || k > 32 {
-        return Some(Cause::Range);
+    if lemma.k < 1 || lemma.k > 32 {
+        return Err(Cause::Range.at(count));
     }
     let limit = rows.len().min(32768);
     if limit < count || limit - count < size {
-        return Some(Cause::TargetFull);
+        return Err(Cause::TargetFull.at(count));
     }
-    None
+    Ok(())
 }

@@ -1,12 +1,15 @@
 // One of two schemes, so that one list of calls can mix them.
+// `count` stands beside the lemma, since it belongs to the slice that the caller supplies.
 ghost use Rattle.scheme.specs.Eithers.{either_size, either_adds};
 ghost use Rattle.scheme.specs.declared.either.Either.TheVariants.{First, Second};
 
+use crate::lemma::Lemma;
 use crate::scheme::Scheme;
 use refusal::Refusal;
 use target::row::Row;
 
-// It is the scheme that it holds; for three schemes or more, nest it.
+// It is the scheme that it holds; for three schemes or more, nest it. An enum and no `dyn`: it is held without the heap,
+// and which rows it adds is known.
 #[derive(Clone, Copy)]
 pub enum Either<S, T> {
     First(S),
@@ -30,18 +33,10 @@ impl<S: Scheme, T: Scheme> Scheme for Either<S, T> {
         }
     }
 
-    fn state(
-        &self,
-        rows: &mut [Row],
-        count: usize,
-        k: u32,
-        a: usize,
-        b: usize,
-        c: usize,
-    ) -> Result<usize, Refusal> {
+    fn state(&self, rows: &mut [Row], count: usize, lemma: Lemma) -> Result<usize, Refusal> {
         match self {
-            Either::First(s) => s.state(rows, count, k, a, b, c),
-            Either::Second(t) => t.state(rows, count, k, a, b, c),
+            Either::First(s) => s.state(rows, count, lemma),
+            Either::Second(t) => t.state(rows, count, lemma),
         }
     }
 }

@@ -7,10 +7,13 @@
 // of two schemes, so that a list of calls can mix them. The other modules have what schemes are made of.
 #![tactic(auto)]
 
+mod base;
 pub mod bitwise;
 pub mod cause;
 pub mod either;
+pub mod lemma;
 mod put;
 pub mod scheme;
 pub mod sum;
 mod turns;
+mod written;

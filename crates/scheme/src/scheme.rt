@@ -2,6 +2,7 @@
 ghost use Rattle.std.specs.Prelude.{◌≡◌, ℕ, ◌≤◌};
 ghost use Rattle.scheme.specs.Stated.{Sized, Adds, Outcome};
 
+use crate::lemma::Lemma;
 use refusal::Refusal;
 use target::row::Row;
 
@@ -19,16 +20,9 @@ pub trait Scheme {
 
     // States that the row c is the bitwise and of the rows a and b, at the width k. `count` rows of the table are
     // in use. Granted, the answer is a row that is true exactly when it is so; refused, the table is as it was.
-    fn state(
-        &self,
-        rows: &mut [Row],
-        count: usize,
-        k: u32,
-        a: usize,
-        b: usize,
-        c: usize,
-    ) -> Result<usize, Refusal>
-        ensures { Outcome (size self.now k) (adds self.now) rows.old rows.new count k a b c result };
+    // (`count` stands beside the lemma, since it belongs to the slice that the caller supplies.)
+    fn state(&self, rows: &mut [Row], count: usize, lemma: Lemma) -> Result<usize, Refusal>
+        ensures { Outcome (size self.now lemma.k) (adds self.now) rows.old rows.new count lemma result };
 
     ghost sized: { (s : Self) (k : ℕ) → 1 ≤ k → k ≤ 32 → Sized (size s k) k };
 }

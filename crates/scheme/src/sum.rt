@@ -1,34 +1,29 @@
 // The scheme that adds up the bits of the and, and compares once.
+// Rows are put at an index, since the table is a slice that the caller supplies.
 ghost use Rattle.std.specs.Prelude.{◌≡◌, ◌+◌, ◌*◌, ◌≤◌, length};
-ghost use Rattle.target.specs.Tables.{laid};
-ghost use Rattle.scheme.specs.SumRows.{sum_turn, sum_rows, sum_size, sum_adds};
+ghost use Rattle.scheme.specs.SumRows.{sum_turn, sum_rows, sum_size};
 ghost use Rattle.std.proofs.Common.{rules};
 
-use crate::cause::cause_of;
+use crate::base::Base;
+use crate::lemma::Lemma;
 use crate::put::{put, put_both, put_pair};
-use crate::scheme::Scheme;
-use crate::turns::{Turn, put_turns};
-use refusal::Refusal;
+use crate::turns::{Turn, put_digits};
+use crate::written::Written;
 use target::row::Row;
 
-// The rows of one bit: the operands, and the rows that are 0, 1 and 2.
-#[derive(Clone, Copy)]
-struct SumTurn {
-    a: usize,
-    b: usize,
-    zero: usize,
-    one: usize,
-    two: usize,
-}
+// 0, 1 and 2; for each bit its weight, the bits of a and b, their and, and the total so far; and whether c is the
+// total. Width k takes 11 k + 4 rows.
+#[derive(Clone, Copy, PartialEq, Eq, Debug)]
+pub struct Sum;
 
-impl Turn for SumTurn {
-    ghost block = { λ s. sum_turn s.zero s.one s.two s.a s.b };
+impl Turn for Sum {
+    ghost block = { sum_turn };
 
     ghost some = { Prim.search rules };
 
-    fn put_turn(&self, rows: &mut [Row], i: u32, former: usize, at: usize) -> usize {
-        put_pair(rows, at, i, self.a, self.b, self.two);
-        put_both(rows, at + 5, at + 2, at + 4, self.zero, self.one);
+    fn put_turn(base: Base, rows: &mut [Row], i: u32, former: usize, at: usize) -> usize {
+        put_pair(rows, at, i, base);
+        put_both(rows, at + 5, at + 2, at + 4, base);
         put(
             rows,
             at + 9,
@@ -38,58 +33,24 @@ impl Turn for SumTurn {
     }
 }
 
-// Writes all rows of the scheme from the index `count` on, and answers the last of them.
-fn lay_sum(rows: &mut [Row], count: usize, k: u32, a: usize, b: usize, c: usize) -> usize
-    requires { (k ≤ 32) × (count + sum_size k ≤ length rows.old) }
-    ensures table { rows.new ≡ laid rows.old count (sum_rows count k a b c) }
-    ensures last { result ≡ count + (11 * k + 3) }
-{
-    put(
-        rows,
-        count,
-        &[Row::Number(0), Row::Number(1), Row::Number(2)],
-    );
-    let turn = SumTurn {
-        a,
-        b,
-        zero: count,
-        one: count + 1,
-        two: count + 2,
-    };
-    let total = put_turns(&turn, rows, count, count + 3, k);
-    let last = count + (11 * k as usize + 3);
-    put(rows, last, &[Row::Equal(c, total)]);
-    last
-}
+impl Written for Sum {
+    ghost length_of = { sum_size };
 
-// 0, 1 and 2; for each bit its weight, the bits of a and b, their and, and the total so far; and whether c is the
-// total. Width k takes 11 k + 4 rows.
-#[derive(Clone, Copy, PartialEq, Eq, Debug)]
-pub struct Sum;
+    ghost list = { sum_rows };
 
-impl Scheme for Sum {
-    ghost size = { λ _ k. sum_size k };
+    ghost few = { Prim.search rules };
 
-    ghost adds = { λ _. sum_adds };
-
-    ghost sized = { Prim.search rules };
-
-    fn size_at(&self, k: u32) -> usize {
+    // `as`, since no `From` makes a `usize` of a `u32`.
+    fn rows_at(k: u32) -> usize {
         11 * k as usize + 4
     }
 
-    fn state(
-        &self,
-        rows: &mut [Row],
-        count: usize,
-        k: u32,
-        a: usize,
-        b: usize,
-        c: usize,
-    ) -> Result<usize, Refusal> {
-        if let Some(cause) = cause_of(rows, self.size_at(k), count, k, a, b, c) {
-            return Err(Refusal { cause, at: count });
-        }
-        Ok(lay_sum(rows, count, k, a, b, c))
+    #[tactic(auto, using(crate::proofs::Fits::fit, crate::proofs::SumOwes::sum_bits_length))]
+    fn lay(rows: &mut [Row], count: usize, lemma: Lemma) -> usize {
+        let begin = [Row::Number(0), Row::Number(1), Row::Number(2)];
+        let total = put_digits::<Sum>(rows, count, lemma, &begin, count);
+        let last = count + (11 * lemma.k as usize + 3); // `as`, as in `rows_at`
+        put(rows, last, &[Row::Equal(lemma.c, total)]);
+        last
     }
 }

@@ -1,4 +1,3 @@
-pub mod Rowed
 pub mod Places
 pub mod PlacedRows
 pub mod Codes

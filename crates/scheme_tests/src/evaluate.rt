@@ -1,32 +1,15 @@
 // The values of a table's rows, for numbers from 0: truth values are 1 and 0.
 ghost use Rattle.std.specs.Prelude.{◌≡◌, ℕ, ◌+◌, ◌^◌, ◌<◌, ◌≤◌, length, slice_index};
 ghost use Rattle.target.specs.Meaning.{unknown};
-ghost use Rattle.scheme_tests.specs.Evaluated.{truth_code, divided_code, left_code, stepped, Evaluates};
+ghost use Rattle.scheme_tests.specs.Evaluated.{stepped, Evaluates};
 
 use target::row::Row;
 
-fn at(values: &[u64], i: usize) -> u64
-    ensures { result ≡ slice_index values.now i }
+// The number at i, and 0 past the end.
+fn at(numbers: &[u64], i: usize) -> u64
+    ensures { result ≡ slice_index numbers.now i }
 {
-    if i < values.len() { values[i] } else { 0 }
-}
-
-fn truth(b: bool) -> u64
-    ensures { result ≡ truth_code b }
-{
-    if b { 1 } else { 0 }
-}
-
-fn divided(n: u64, d: u64) -> u64
-    ensures { result ≡ divided_code n d }
-{
-    if d == 0 { 0 } else { n / d }
-}
-
-fn left_over(n: u64, d: u64) -> u64
-    ensures { result ≡ left_code n d }
-{
-    if d == 0 { 0 } else { n % d }
+    numbers.get(i).copied().unwrap_or(0)
 }
 
 // The value of a row that n unknowns stand before.
@@ -36,18 +19,18 @@ fn value(row: Row, numbers: &[u64], n: usize, values: &[u64]) -> u64
     match row {
         Row::Unknown => at(numbers, n),
         Row::Number(m) => m,
-        Row::Truth(b) => truth(b),
+        Row::Truth(b) => u64::from(b),
         Row::Add(i, j) => at(values, i).wrapping_add(at(values, j)),
         Row::Sub(i, j) => at(values, i).wrapping_sub(at(values, j)),
         Row::Times(i, j) => at(values, i).wrapping_mul(at(values, j)),
-        Row::Quot(i, j) => divided(at(values, i), at(values, j)),
-        Row::Rem(i, j) => left_over(at(values, i), at(values, j)),
-        Row::Equal(i, j) => truth(at(values, i) == at(values, j)),
-        Row::Less(i, j) => truth(at(values, i) < at(values, j)),
-        Row::AtMost(i, j) => truth(at(values, i) <= at(values, j)),
-        Row::Not(i) => truth(at(values, i) == 0),
+        Row::Quot(i, j) => at(values, i).checked_div(at(values, j)).unwrap_or(0),
+        Row::Rem(i, j) => at(values, i).checked_rem(at(values, j)).unwrap_or(0),
+        Row::Equal(i, j) => u64::from(at(values, i) == at(values, j)),
+        Row::Less(i, j) => u64::from(at(values, i) < at(values, j)),
+        Row::AtMost(i, j) => u64::from(at(values, i) <= at(values, j)),
+        Row::Not(i) => u64::from(at(values, i) == 0),
         Row::And(i, j) => at(values, i).wrapping_mul(at(values, j)),
-        Row::Or(i, j) => truth(at(values, i).wrapping_add(at(values, j)) > 0),
+        Row::Or(i, j) => u64::from(at(values, i).wrapping_add(at(values, j)) > 0),
         Row::Choose(_, c, i, j) => if at(values, c) == 1 {
             at(values, i)
         } else {
@@ -77,6 +60,8 @@ pub fn evaluate(rows: &[Row], numbers: &[u64], values: &mut [u64])
     for (i, row) in rows.iter().enumerate() {
         let v = value(*row, numbers, n, values);
         n = count_with(*row, n);
+
+        // By its index: earlier values are read here, and no proof told what a write through `get_mut` leaves.
         if i < values.len() {
             values[i] = v;
         }

@@ -3,7 +3,7 @@
 #![tactic(auto)]
 
 mod evaluate;
-mod expected;
+pub mod expected;
 pub mod listed;
 #[cfg(test)]
 mod tests;

@@ -1,39 +1,41 @@
 // What callers of sum and bitwise learn of the rows: exactly those that are written out.
-ghost use Rattle.scheme.specs.SumRows.{sum_size, sum_rows, sum_adds};
-ghost use Rattle.scheme.specs.BitwiseRows.{bitwise_size, bitwise_rows, bitwise_adds};
+// `count` stands beside the lemma, since it belongs to the slice that the caller supplies.
+ghost use Rattle.std.specs.Prelude.{◌≡◌, ℕ, List};
+ghost use Rattle.target.specs.declared.row.Row.{Row};
+ghost use Rattle.scheme.specs.declared.lemma.Lemma.{Lemma};
+ghost use Rattle.scheme.specs.Shared.{Listed};
 ghost use Rattle.scheme.specs.Stated.{Outcome};
 ghost use Rattle.scheme_tests.specs.Lists.{Lists};
+ghost use Rattle.scheme_tests.specs.Placed.{placed};
 
+use crate::expected::Frame;
 use refusal::Refusal;
-use scheme::bitwise::Bitwise;
+use scheme::lemma::Lemma;
 use scheme::scheme::Scheme;
-use scheme::sum::Sum;
 use target::row::Row;
 
-pub fn sum_listed(
-    rows: &mut [Row],
-    count: usize,
-    k: u32,
-    a: usize,
-    b: usize,
-    c: usize,
-) -> Result<usize, Refusal>
-    ensures lists { Lists sum_size sum_rows rows.old rows.new count k a b c result }
-    ensures outcome { Outcome (sum_size k) sum_adds rows.old rows.new count k a b c result }
-{
-    Sum.state(rows, count, k, a, b, c)
+// An and-scheme whose rows are written out as a list, from how many rows are before and the lemma.
+pub trait Lister: Scheme {
+    ghost list: { ℕ → Lemma → List Row };
+
+    // Row j of the list, from its place alone; past the last an unknown, of which no scheme adds any. (Frame and place stand
+    // side by side: each row of one frame is asked for.)
+    fn row(f: Frame, j: usize) -> Row
+        ensures { result ≡ placed list f j };
+
+    // It adds no other rows than those of the list, and the last of them is its answer.
+    ghost listed: { (s : Self) (before : List Row) (l : Lemma) (new : List Row) (answer : ℕ) → Self.adds s before l new answer → Listed (Self.size s) list before l new answer };
 }
 
-pub fn bitwise_listed(
+// States the lemma: what `state` promises, and what it says of the list.
+pub fn listed<S: Lister>(
+    scheme: &S,
     rows: &mut [Row],
     count: usize,
-    k: u32,
-    a: usize,
-    b: usize,
-    c: usize,
+    lemma: Lemma,
 ) -> Result<usize, Refusal>
-    ensures lists { Lists bitwise_size bitwise_rows rows.old rows.new count k a b c result }
-    ensures outcome { Outcome (bitwise_size k) bitwise_adds rows.old rows.new count k a b c result }
+    ensures lists { Lists (S.size scheme.now) S.list rows.old rows.new count lemma result }
+    ensures outcome { Outcome (S.size scheme.now lemma.k) (S.adds scheme.now) rows.old rows.new count lemma result }
 {
-    Bitwise.state(rows, count, k, a, b, c)
+    scheme.state(rows, count, lemma)
 }

@@ -15,15 +15,15 @@ use Rattle.script.specs.Words.{reserved_words, among}
 use Rattle.script.specs.Steps.{is_open, is_close, is_end, is_name, is_word, number_in, keyword_in, and_then}
 use Rattle.script.specs.Reading.{Read, nothing_read, declared, full, texts, prologue_at, sort_at, parameters_at, declaration_at, command_by, command_at, commands_at, script_at}
 use Rattle.script.specs.Grammar.{Register, Script, parameter_tokens, sort_tokens, register_tokens, registers_tokens, prologue_tokens, epilogue_tokens, script_tokens, Spells, Free, no_span, orders_of, names_of}
-use Rattle.script.proofs.GrammarSteps.{Faithful, spells_join, spells_length, only_open, only_close, only_end, only_numeral, only_text, only_word, keyword_word, only_keyword, never, ok_same, then_inv, accept_inv, found_as, step_inv, pick_inv}
+use Rattle.script.proofs.GrammarSteps.{Faithful, spells_join, spells_length, only_open, only_close, only_end, only_numeral, only_text, only_word, keyword_word, only_keyword, ok_same, then_inv, accept_inv, found_as, step_inv, pick_inv}
 use Rattle.script.proofs.GrammarAfter.{after, after_none, after_declared, texts_declared}
 
 -- the three tests of a name were passed
 tests_inv : {B : Type 0} (a b c : Bool) (e f : Refusal) (s : Span) (go : Span → Result B Refusal) (y : B)
     → and_then (cond (a || b) (Err e) (cond c (Err f) (Ok s))) go ≡ Ok y → (a ≡ false) × (b ≡ false) × (c ≡ false) × (go s ≡ Ok y)
-tests_inv true b c e f s go y q = absurd (never e y q)
-tests_inv false true c e f s go y q = absurd (never e y q)
-tests_inv false false true e f s go y q = absurd (never f y q)
+tests_inv true b c e f s go y q = cc
+tests_inv false true c e f s go y q = cc
+tests_inv false false true e f s go y q = cc
 tests_inv false false false e f s go y q = (refl, refl, refl, q)
 
 pair_same : (m n w : ℕ) (k : ℕ × ℕ) → m ≡ w → ◌≡◌ {A = Result (ℕ × ℕ) Refusal} (Ok (m, n)) (Ok k) → (k.0 ≡ w) × (n ≡ k.1)
@@ -219,7 +219,7 @@ module _ (lex : ℕ → Lexing) (text : ℕ → ℕ → List ℕ) where
 
     commands_sound : (more : ℕ) (read : Read) (pos : ℕ) (x : Read) → commands_at lex text room more read pos ≡ Ok x → Commands more read pos x
     commands_sound zero read pos x e =
-        ⊎_elim (finished zero read pos x) (λ w. absurd (never _ x w.goes_on))
+        ⊎_elim (finished zero read pos x) (λ w. cc)
         (command_sound room (λ place d. Err (full d.close.place)) read pos x e)
     commands_sound (suc more) read pos x e =
         let next : ℕ → Declaration → Result Read Refusal = λ place d. commands_at lex text room more (declared read place d) d.close.after in

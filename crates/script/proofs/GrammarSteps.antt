@@ -61,63 +61,57 @@ module _ (lex : ℕ → Lexing) where
       record { front = h.0 ∷ c.front; back = c.back; mid = c.mid; whole = h.2 ∙ ap (λ l. h.0 ∷ l) c.whole; before = (h.0, c.front, refl, h.3, c.before); behind = c.behind }
 
 -- which tokens the tests pass
-no : false ≡ true → ⊥
-no e = let z : ◌≡◌ {A = ℕ} 0 1 = cc in omega arith
-
-pub none_some : {A : Type 0} (x : A) → ◌≡◌ {A = Option A} None (Some x) → ⊥
-none_some x e = let z : ◌≡◌ {A = ℕ} 0 1 = cc in omega arith
-
 pub only_open : (t : Tok) → is_open t ≡ true → t ≡ open_paren
 only_open open_paren e = refl
-only_open close_paren e = absurd (no e)
-only_open (name t) e = absurd (no e)
-only_open (numeral t) e = absurd (no e)
-only_open (binary t) e = absurd (no e)
-only_open (hex t) e = absurd (no e)
-only_open end e = absurd (no e)
+only_open close_paren e = cc
+only_open (name t) e = cc
+only_open (numeral t) e = cc
+only_open (binary t) e = cc
+only_open (hex t) e = cc
+only_open end e = cc
 
 pub only_close : (t : Tok) → is_close t ≡ true → t ≡ close_paren
-only_close open_paren e = absurd (no e)
+only_close open_paren e = cc
 only_close close_paren e = refl
-only_close (name t) e = absurd (no e)
-only_close (numeral t) e = absurd (no e)
-only_close (binary t) e = absurd (no e)
-only_close (hex t) e = absurd (no e)
-only_close end e = absurd (no e)
+only_close (name t) e = cc
+only_close (numeral t) e = cc
+only_close (binary t) e = cc
+only_close (hex t) e = cc
+only_close end e = cc
 
 pub only_end : (t : Tok) → is_end t ≡ true → t ≡ end
-only_end open_paren e = absurd (no e)
-only_end close_paren e = absurd (no e)
-only_end (name t) e = absurd (no e)
-only_end (numeral t) e = absurd (no e)
-only_end (binary t) e = absurd (no e)
-only_end (hex t) e = absurd (no e)
+only_end open_paren e = cc
+only_end close_paren e = cc
+only_end (name t) e = cc
+only_end (numeral t) e = cc
+only_end (binary t) e = cc
+only_end (hex t) e = cc
 only_end end e = refl
 
 only_name : (t : Tok) (u : List ℕ) → name_in t ≡ Some u → t ≡ name u
-only_name open_paren u e = absurd (none_some u e)
-only_name close_paren u e = absurd (none_some u e)
+only_name open_paren u e = cc
+only_name close_paren u e = cc
 only_name (name t) u e = cc
-only_name (numeral t) u e = absurd (none_some u e)
-only_name (binary t) u e = absurd (none_some u e)
-only_name (hex t) u e = absurd (none_some u e)
-only_name end u e = absurd (none_some u e)
+only_name (numeral t) u e = cc
+only_name (binary t) u e = cc
+only_name (hex t) u e = cc
+only_name end u e = cc
 
 pub only_numeral : (t : Tok) (n : ℕ) → number_in t ≡ Some n → (ds : List ℕ) × (t ≡ numeral ds) × (n ≡ value_of ds)
-only_numeral open_paren n e = absurd (none_some n e)
-only_numeral close_paren n e = absurd (none_some n e)
-only_numeral (name t) n e = absurd (none_some n e)
+only_numeral open_paren n e = cc
+only_numeral close_paren n e = cc
+only_numeral (name t) n e = cc
 only_numeral (numeral t) n e = (t, refl, cc)
-only_numeral (binary t) n e = absurd (none_some n e)
-only_numeral (hex t) n e = absurd (none_some n e)
-only_numeral end n e = absurd (none_some n e)
+only_numeral (binary t) n e = cc
+only_numeral (hex t) n e = cc
+only_numeral end n e = cc
 
 -- a token whose text passes a test
 pub only_text : (test : List ℕ → Bool) (t : Tok) → text_is test (name_in t) ≡ true → (u : List ℕ) × (t ≡ name u) × (test u ≡ true)
 only_text test t e = by (name_in t) refl e
   where
     by : (o : Option (List ℕ)) → name_in t ≡ o → text_is test o ≡ true → (u : List ℕ) × (t ≡ name u) × (test u ≡ true)
-    by None i e = absurd (no e)
+    by None i e = cc
     by (Some u) i e = (u, only_name t u i, e)
 
 pub only_word : (word : List ℕ) (t : Tok) → is_word word t ≡ true → t ≡ name word
@@ -140,13 +134,13 @@ looked u this k rest other e = by (bytes_eq u (keyword_word this)) refl e
 
 keyword_word_lem : (u : List ℕ) (k : Keyword) → keyword_of u ≡ Some k → u ≡ keyword_word k
 keyword_word_lem u k e =
-    looked u CheckSat k _ (looked u (Declare Constant) k _ (looked u (Declare Function) k None (λ z. absurd (none_some k z)))) e
+    looked u CheckSat k _ (looked u (Declare Constant) k _ (looked u (Declare Function) k None (λ z. cc))) e
 
 pub only_keyword : (t : Tok) (k : Keyword) → keyword_in t ≡ Some k → t ≡ name (keyword_word k)
 only_keyword t k e = by (name_in t) refl e
   where
     by : (o : Option (List ℕ)) → name_in t ≡ o → keyword_from o ≡ Some k → t ≡ name (keyword_word k)
-    by None i e = absurd (none_some k e)
+    by None i e = cc
     by (Some u) i e = only_name t u i ∙ ap name (keyword_word_lem u k e)
 
 pub keyword_known : (k : Keyword) → keyword_in (name (keyword_word k)) ≡ Some k
@@ -154,27 +148,23 @@ keyword_known CheckSat = refl
 keyword_known (Declare Constant) = refl
 keyword_known (Declare Function) = refl
 
--- no refusal is a grant
-pub never : {A : Type 0} (e : Refusal) (x : A) → ◌≡◌ {A = Result A Refusal} (Err e) (Ok x) → ⊥
-never e x q = let z : ◌≡◌ {A = ℕ} 0 1 = cc in omega arith
-
 pub ok_same : {A : Type 0} (x y : A) → ◌≡◌ {A = Result A Refusal} (Ok x) (Ok y) → x ≡ y
 ok_same x y e = cc
 
 -- steps that were taken
 pub then_inv : {A B : Type 0} (r : Result A Refusal) (go : A → Result B Refusal) (y : B) → and_then r go ≡ Ok y → (x : A) × (r ≡ Ok x) × (go x ≡ Ok y)
 then_inv (Ok x) go y e = (x, refl, e)
-then_inv (Err f) go y e = absurd (never f y e)
+then_inv (Err f) go y e = cc
 
 pub accept_inv : {B : Type 0} (wanted : Tok → Bool) (l : Lexing) (go : Span → Result B Refusal) (y : B) → and_then (accept wanted l) go ≡ Ok y
     → (s : Span) × (t : Tok) × (l ≡ found t s.place s.after) × (wanted t ≡ true) × (go s ≡ Ok y)
-accept_inv wanted (refused f) go y e = absurd (never f y e)
+accept_inv wanted (refused f) go y e = cc
 accept_inv {B} wanted (found t p a) go y e = by (wanted t) refl e
   where
     by : (b : Bool) → wanted t ≡ b → and_then (cond b (Ok (record { place = p; after = a })) (Err (off_grammar p))) go ≡ Ok y
         → (s : Span) × (u : Tok) × (found t p a ≡ found u s.place s.after) × (wanted u ≡ true) × (go s ≡ Ok y)
     by true w e = (record { place = p; after = a }, t, refl, w, e)
-    by false w e = absurd (never _ y e)
+    by false w e = cc
 
 pub found_as : (l : Lexing) (t u : Tok) (s : Span) → l ≡ found t s.place s.after → t ≡ u → l ≡ found u s.place s.after
 found_as l t u s e same = e ∙ ap (λ x. found x s.place s.after) same
@@ -188,12 +178,12 @@ step_inv wanted t only l go y e =
 
 pub pick_inv : {A B : Type 0} (wanted : Tok → Option A) (l : Lexing) (go : A × ℕ → Result B Refusal) (y : B) → and_then (pick wanted l) go ≡ Ok y
     → (s : Span) × (t : Tok) × (v : A) × (l ≡ found t s.place s.after) × (wanted t ≡ Some v) × (go (v, s.after) ≡ Ok y)
-pick_inv wanted (refused f) go y e = absurd (never f y e)
+pick_inv wanted (refused f) go y e = cc
 pick_inv {A} {B} wanted (found t p a) go y e = by (wanted t) refl e
   where
     by : (o : Option A) → wanted t ≡ o → and_then (given o p a) go ≡ Ok y
         → (s : Span) × (u : Tok) × (v : A) × (found t p a ≡ found u s.place s.after) × (wanted u ≡ Some v) × (go (v, s.after) ≡ Ok y)
-    by None w e = absurd (never _ y e)
+    by None w e = cc
     by (Some v) w e = (record { place = p; after = a }, t, v, refl, w, e)
 
 -- steps to take

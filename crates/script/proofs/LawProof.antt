@@ -9,7 +9,7 @@ use Rattle.script.specs.Tokens.{Lexing, token_at}
 use Rattle.script.specs.Reading.{Read, script_at, text_in, reading, order_room, name_room, blank_order, blank_name, padded, full, answer_of, orders_left, names_left}
 use Rattle.script.specs.Grammar.{Script}
 use Rattle.script.specs.Law.{Spelled, read_of, Grammatical}
-use Rattle.script.proofs.GrammarSteps.{Faithful, never}
+use Rattle.script.proofs.GrammarSteps.{Faithful}
 use Rattle.script.proofs.GrammarAfter.{orders_length}
 use Rattle.script.proofs.GrammarFaithful.{faithful}
 use Rattle.script.proofs.GrammarComplete.{script_read}
@@ -41,7 +41,7 @@ module _ (bytes : List ℕ) (orders names : ℕ) where
     where
       by : (b : Bool) → ltb 65536 (length bytes) ≡ b → cond b (Err (full 65536)) (script_at (token_at bytes) (text_in bytes) (order_room orders) (name_room names) 0) ≡ Ok x
           → (script : Script) × (spans : List Span) × Spelled orders names bytes script spans × (x ≡ read_of script spans)
-      by true long e = absurd (never (full 65536) x e)
+      by true long e = cc
       by false long e =
           let s = script_sound (token_at bytes) (text_in bytes) (faithful bytes) (name_room names) (order_room orders) x e in (
             s.script,
@@ -69,7 +69,7 @@ module _ (bytes : List ℕ) (orders names : ℕ) where
         ap (λ z. padded names blank_name z.names) same,
         λ other others t. one_script other s.0 others s.1 t s.2,
       )
-  by_reading (Err f) e = (λ script spans s. never f (read_of script spans) (sym e ∙ spelled_read script spans s), refl, refl)
+  by_reading (Err f) e = (λ script spans s. let q : ◌≡◌ {A = Result Read Refusal} (Err f) (Ok (read_of script spans)) = sym e ∙ spelled_read script spans s in cc, refl, refl)
 
 pub grammatical : (bytes : List ℕ) (orders names : ℕ) (r : Result ℕ Refusal) (os : List Order) (ns : List Name)
     → r ≡ answer_of (reading (order_room orders) (name_room names) bytes)

@@ -1,17 +1,20 @@
 -- Each case of the first token, as the code comes to it.
-use Rattle.std.proofs.Common.{◌≡◌, ℕ, ◌+◌, ◌-◌, ◌<◌, ◌≤◌, Bool, true, false, List, ◌∷◌, length, get_or, take, drop, sym, refl, ap, ◌∙◌, arith}
+use Rattle.std.proofs.Common.{◌≡◌, ℕ, ◌+◌, ◌-◌, ◌<◌, ◌≤◌, true, false, List, ◌∷◌, length, get_or, take, drop, sym, ap, ◌∙◌, arith, add-zero, get_or-drop, length-drop}
 use Rattle.std.specs.List.{prefix_len}
-use Rattle.std.proofs.lemmas.Bool.{eq-eqb, ne_eqb, lt-ltb, cond-true, cond-false}
-use Rattle.std.proofs.lemmas.List.{drop_more, drop_all, take_rest}
-use Rattle.script.specs.declared.token.Class.{Class}
+use Rattle.std.proofs.lemmas.Bool.{ne_eqb, cond-true, cond-false}
+use Rattle.std.proofs.lemmas.List.{drop_more, drop_all, take_rest, get_or-take}
+use Rattle.std.proofs.lemmas.List.Sums.{prefix_len-le-length, prefix_len-drop_yes}
 use Rattle.script.specs.declared.token.Class.TheVariants.{Atom}
-use Rattle.script.specs.Bytes.{atomic, within, all, skipped}
-use Rattle.script.specs.Tokens.{open_paren, close_paren, end, found, malformed, is_constant, atom_token, atom_of, token_here, token_at}
+use Rattle.script.specs.Bytes.{atomic, within, skipped}
+use Rattle.script.specs.Tokens.{open_paren, close_paren, end, found, malformed, atom_token, atom_of, token_here, token_at}
 
--- the digits of a constant, as the code cuts them off
-pub digits_decide : (letter : ℕ) (class : Class) (text : List ℕ) (r : Bool) → 2 < length text → get_or text 1 0 ≡ letter → r ≡ all class (take (length text - 2) (drop 2 text)) → r ≡ is_constant letter class text
-digits_decide letter class text r long same e =
-    e ∙ (ap (all class) (take_rest text 2) ∙ (rw (lt-ltb 2 (length text) long, eq-eqb (get_or text 1 0) letter same) refl))
+-- the run of an atom's bytes, as the code cuts off what stands from p on
+module _ (s : List ℕ) (p n : ℕ) (h : p < length s) (run : n ≡ prefix_len (within Atom) (take (length s - p) (drop p s))) where
+  pub run_is : p + n ≡ p + prefix_len (within Atom) (drop p s)
+  run_is = ap (λ k. p + k) (run ∙ ap (prefix_len (within Atom)) (take_rest s p))
+
+  pub run_inside : p + n ≤ length s
+  run_inside = omega (arith, run_is, prefix_len-le-length (within Atom) (drop p s), length-drop p s)
 
 -- the code stands at p, after the blanks
 module _ (s : List ℕ) (start p : ℕ) (at : p ≡ start + skipped false (drop start s)) where
@@ -36,9 +39,16 @@ module _ (s : List ℕ) (start p : ℕ) (at : p ≡ start + skipped false (drop 
       pub at_other : atomic (get_or s p 0) ≡ false → malformed p ≡ token_at s start
       at_other y = rw (y, ne_eqb _ 40 no40, ne_eqb _ 41 no41) at reads
 
-      pub at_atom : (a : ℕ) → a ≡ p + prefix_len (within Atom) (drop p s) → atomic (get_or s p 0) ≡ true → atom_token (get_or s p 0) (take (a - p) (drop p s)) p ≡ token_at s start
-      at_atom a e y =
-          let d : a - p ≡ prefix_len (within Atom) (drop p s) = omega arith in
-          ap (λ n. atom_token (get_or s p 0) (take n (drop p s)) p) d
-          ∙ (ap (λ xs. atom_token (get_or s p 0) (atom_of xs) p) (drop_more s p 0 h)
-          ∙ (sym (cond-false _ _ _ (ne_eqb (get_or s p 0) 40 no40) ∙ (cond-false _ _ _ (ne_eqb (get_or s p 0) 41 no41) ∙ cond-true _ _ _ y)) ∙ reads))
+      module _ (a : ℕ) (end_is : a ≡ p + prefix_len (within Atom) (drop p s)) (y : atomic (get_or s p 0) ≡ true) where
+        first : get_or (take (a - p) (drop p s)) 0 0 ≡ get_or s p 0
+        first =
+            let e = prefix_len-drop_yes (within Atom) s p 0 h y in
+            get_or-take (a - p) (drop p s) 0 0 (omega arith) ∙ (get_or-drop p s 0 0 ∙ ap (λ i. get_or s i 0) (add-zero p))
+
+        pub at_atom : atom_token (get_or (take (a - p) (drop p s)) 0 0) (take (a - p) (drop p s)) p ≡ token_at s start
+        at_atom =
+            let d : a - p ≡ prefix_len (within Atom) (drop p s) = omega arith in
+            ap (λ b. atom_token b (take (a - p) (drop p s)) p) first
+            ∙ (ap (λ n. atom_token (get_or s p 0) (take n (drop p s)) p) d
+            ∙ (ap (λ xs. atom_token (get_or s p 0) (atom_of xs) p) (drop_more s p 0 h)
+            ∙ (sym (cond-false _ _ _ (ne_eqb (get_or s p 0) 40 no40) ∙ (cond-false _ _ _ (ne_eqb (get_or s p 0) 41 no41) ∙ cond-true _ _ _ y)) ∙ reads)))

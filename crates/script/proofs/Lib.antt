@@ -1,8 +1,7 @@
-pub mod Skips
-pub mod Texts
 pub mod Values
 pub mod Lexing
 pub mod Tables
+pub mod Declaring
 pub mod Turns
 pub mod Whole
 pub mod GrammarSteps

@@ -1,46 +1,19 @@
--- Words that are looked through one by one.
-use Rattle.std.proofs.Common.{◌≡◌, ℕ, ◌+◌, ◌<◌, ◌≤◌, true, false, List, [], map, length, get_or, drop, Ok, Err, sym, refl, ap, ◌∙◌, Bor}
-use lib.ListN.{length-map}
+-- Reserved words, and names that may be taken.
+use Rattle.std.proofs.Common.{◌≡◌, ℕ, Bool, true, false, ◌||◌, List, [], ◌∷◌, map, sym, refl, ap, ◌∙◌}
+use Rattle.std.specs.List.{list_any}
 use Rattle.std.specs.Str.{bytes_eq}
-use Rattle.std.proofs.lemmas.List.{at_drop_more, get_or-map}
-use Rattle.script.specs.declared.words.Operator.{Operator}
-use Rattle.script.specs.Words.{reserved_words, among}
-use Rattle.script.specs.declared.token.Span.{Span}
-use Rattle.script.specs.Reading.{take_name, full}
-use Rattle.std.proofs.lemmas.Bool.{le-leb, lt-leb, or_from, cond-true, cond-false}
+use Rattle.std.proofs.lemmas.List.Folds.{list_any-append}
+use Rattle.script.specs.Words.{operator_words, other_words, reserved_words, among}
 
-module _ (words : List (List ℕ)) (text : List ℕ) (i : ℕ) (h : i < length words) where
-  pub among_here : bytes_eq (get_or words i []) text ≡ true → among (drop i words) text ≡ true
-  among_here e = at_drop_more (λ ws. among ws text) words i [] h ∙ rw e refl
+-- a reserved word is an operator or one of the other words
+module _ (text : List ℕ) (operator : Bool) where
+  pub operator_first : operator ≡ true → operator ≡ among operator_words text → operator ≡ among reserved_words text
+  operator_first t e = t ∙ sym (list_any-append (λ w. bytes_eq w text) operator_words other_words ∙ rw (← e, t) refl)
 
-  pub among_later : bytes_eq (get_or words i []) text ≡ false → among (drop i words) text ≡ among (drop (i + 1) words) text
-  among_later e = at_drop_more (λ ws. among ws text) words i [] h ∙ rw e refl
+  pub word_then : (word : Bool) → operator ≡ false → operator ≡ among operator_words text → word ≡ among other_words text → word ≡ among reserved_words text
+  word_then word f e w = w ∙ sym (list_any-append (λ w. bytes_eq w text) operator_words other_words ∙ rw (← e, f) refl)
 
--- an entry of a constant table, in the list of its words
-pub named : (xs : List Operator) (i : ℕ) (d : Operator) → i < length xs → (get_or xs i d).name.now ≡ get_or (map (λ o. o.name.now) xs) i []
-named xs i d h = sym (get_or-map (λ o. o.name.now) xs i d [] h)
-
-pub worded : (xs : List (Bor (List ℕ))) (i : ℕ) (d : Bor (List ℕ)) → i < length xs → (get_or xs i d).now ≡ get_or (map (λ r. r.now) xs) i []
-worded xs i d h = sym (get_or-map (λ r. r.now) xs i d [] h)
-
--- the same where each word is a part of an entry
-module _ {X : Type 0} (f : X → List ℕ) (xs : List X) (text : List ℕ) (i : ℕ) (d : X) (h : i < length xs) where
-  inside : i < length (map f xs)
-  inside = simp length-map h
-
-  here : bytes_eq (get_or (map f xs) i []) text ≡ bytes_eq (f (get_or xs i d)) text
-  here = ap (λ w. bytes_eq w text) (get_or-map f xs i d [] h)
-
-  pub part_here : bytes_eq (f (get_or xs i d)) text ≡ true → among (drop i (map f xs)) text ≡ true
-  part_here e = among_here (map f xs) text i inside (here ∙ e)
-
-  pub part_later : bytes_eq (f (get_or xs i d)) text ≡ false → among (drop i (map f xs)) text ≡ among (drop (i + 1) (map f xs)) text
-  part_later e = among_later (map f xs) text i inside (here ∙ e)
-
--- a name that is free
-module _ (taken : List (List ℕ)) (room : ℕ) (text : List ℕ) (span : Span) (word : among reserved_words text ≡ false) (repeated : among taken text ≡ false) where
-  pub no_room : room ≤ length taken → Err (full span.place) ≡ take_name taken room text span
-  no_room h = sym (cond-false _ _ _ (or_from _ _ word repeated) ∙ cond-true _ _ _ (le-leb room (length taken) h))
-
-  pub granted : length taken < room → Ok span ≡ take_name taken room text span
-  granted h = sym (cond-false _ _ _ (or_from _ _ word repeated) ∙ cond-false _ _ _ (lt-leb room (length taken) h))
+-- words that are parts of the entries of a list
+pub among-map : {X : Type 0} (f : X → List ℕ) (xs : List X) (text : List ℕ) → among (map f xs) text ≡ list_any (λ x. bytes_eq (f x) text) xs
+among-map f [] text = refl
+among-map f (x ∷ xs) text = ap (λ b. bytes_eq (f x) text || b) (among-map f xs text)

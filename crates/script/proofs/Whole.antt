@@ -2,6 +2,7 @@
 use Rattle.std.proofs.Common.{◌≡◌, ℕ, ◌<◌, ◌≤◌, List, length, Ok, Err, refl, ◌∙◌}
 use Rattle.std.proofs.lemmas.Bool.{lt-ltb, le-ltb, cond-true, cond-false}
 use Rattle.refusal.specs.declared.Refusal.{Refusal}
+use Rattle.script.specs.declared.steps.Reader.{Reader}
 use Rattle.script.specs.Tokens.{token_at}
 use Rattle.script.specs.Reading.{full, nothing_read, prologue_at, commands_at, script_at, text_in, reading}
 
@@ -18,5 +19,6 @@ module _ (n m : ℕ) (bytes : List ℕ) where
     pub no_prologue : (e : Refusal) → Err e ≡ prologue_at (token_at bytes) (text_in bytes) 0 → reading n m bytes ≡ Err e
     no_prologue e p = begun ∙ rw (← p) refl
 
-    pub from_commands : (start : ℕ) → Ok start ≡ prologue_at (token_at bytes) (text_in bytes) 0 → reading n m bytes ≡ commands_at (token_at bytes) (text_in bytes) m n nothing_read start
-    from_commands start p = begun ∙ rw (← p) refl
+    pub from_commands : (r : Reader) → Ok r.pos ≡ prologue_at (token_at bytes) (text_in bytes) 0 → r.script.now ≡ bytes
+        → reading n m bytes ≡ commands_at (token_at r.script.now) (text_in r.script.now) m n nothing_read r.pos
+    from_commands r p s = rw s (begun ∙ rw (← p) refl)

@@ -1,5 +1,6 @@
 -- Classes of bytes, blanks and comments.
 use Rattle.std.specs.Prelude.{ℕ, ◌+◌, Bool, true, false, cond, not, ◌&&◌, ◌||◌, List, [], ◌∷◌, ◌==◌, nat_le}
+use Rattle.std.specs.List.{list_all}
 use Rattle.script.specs.declared.token.Class.{Class}
 use Rattle.script.specs.declared.token.Class.TheVariants.{Atom, Digit, Bit, HexDigit}
 
@@ -26,8 +27,7 @@ within HexDigit b = digit b || (nat_le 65 b && nat_le b 70) || (nat_le 97 b && n
 
 -- whether all bytes are of a class
 abbrev pub all : Class → List ℕ → Bool
-all c [] = true
-all c (b ∷ bs) = within c b && all c bs
+all c = list_all (within c)
 
 -- how many bytes at the front are blanks and comments; the flag says whether a comment is open.
 -- A comment runs from ; to a carriage return, a line feed or the end.

@@ -19,6 +19,6 @@ Numbered end = Unit {0}
 
 -- where the first token from `start` on stands in a script of length len
 pub record Stands (start len : ℕ) (l : Lexed) : Type 0 where
-  pub begins : start ≤ l.place
-  pub ends : l.place ≤ l.after
-  pub inside : l.after ≤ max start len
+  pub begins : start ≤ l.span.place
+  pub ends : l.span.place ≤ l.span.after
+  pub inside : l.span.after ≤ max start len

@@ -1,59 +1,37 @@
 -- One step of the reader: the next token, where it is one that the grammar wants there.
-use Rattle.std.specs.Prelude.{ℕ, Bool, true, false, cond, List, Some, None, Ok, Err, codes, Option, Result}
+use Rattle.std.specs.Prelude.{◌≡◌, ℕ, Bool, true, false, cond, List, Some, None, Ok, Err, codes, Option, Result}
 use Rattle.std.specs.Str.{bytes_eq}
 use Rattle.refusal.specs.declared.Refusal.{Refusal}
 use Rattle.script.specs.declared.token.Span.{Span}
+use Rattle.script.specs.declared.token.Token.{Token}
+use Rattle.script.specs.declared.steps.Reader.{Reader}
 use Rattle.script.specs.declared.command.Form.TheVariants.{Constant, Function}
 use Rattle.script.specs.declared.command.Keyword.{Keyword}
 use Rattle.script.specs.declared.command.Keyword.TheVariants.{CheckSat, Declare}
-use Rattle.script.specs.Tokens.{Tok, open_paren, close_paren, name, numeral, binary, hex, end, Lexing, found, refused, off_grammar, value_of}
+use Rattle.script.specs.Tokens.{Tok, open_paren, close_paren, name, numeral, end, Lexing, found, refused, off_grammar, shape, value_of}
+use Rattle.script.specs.Found.{Numbered}
 
 abbrev pub is_open : Tok → Bool
 is_open open_paren = true
-is_open close_paren = false
-is_open (name t) = false
-is_open (numeral t) = false
-is_open (binary t) = false
-is_open (hex t) = false
-is_open end = false
+is_open _ = false
 
 abbrev pub is_close : Tok → Bool
-is_close open_paren = false
 is_close close_paren = true
-is_close (name t) = false
-is_close (numeral t) = false
-is_close (binary t) = false
-is_close (hex t) = false
-is_close end = false
+is_close _ = false
 
 abbrev pub is_end : Tok → Bool
-is_end open_paren = false
-is_end close_paren = false
-is_end (name t) = false
-is_end (numeral t) = false
-is_end (binary t) = false
-is_end (hex t) = false
 is_end end = true
+is_end _ = false
 
 -- the text of a name
 abbrev pub name_in : Tok → Option (List ℕ)
-name_in open_paren = None
-name_in close_paren = None
 name_in (name t) = Some t
-name_in (numeral t) = None
-name_in (binary t) = None
-name_in (hex t) = None
-name_in end = None
+name_in _ = None
 
 -- the number of a numeral
 abbrev pub number_in : Tok → Option ℕ
-number_in open_paren = None
-number_in close_paren = None
-number_in (name t) = None
 number_in (numeral t) = Some (value_of t)
-number_in (binary t) = None
-number_in (hex t) = None
-number_in end = None
+number_in _ = None
 
 -- whether there is a text, and it satisfies a test
 abbrev pub text_is : (List ℕ → Bool) → Option (List ℕ) → Bool
@@ -94,6 +72,15 @@ keyword_from (Some t) = keyword_of t
 
 abbrev pub keyword_in : Tok → Option Keyword
 keyword_in t = keyword_from (name_in t)
+
+-- what a call gives at each token, seen through `see`, is what a test says of the token
+abbrev pub Tells : {A B : Type 0} → (Token → A → Type 0) → (A → B) → (Tok → B) → Type 0
+Tells gives see test = (t : Token) (r : _) → Numbered (shape t) → gives t r → see r ≡ test (shape t)
+
+-- a reader after a step: it goes on behind the token that was taken
+abbrev pub passed : Reader → Result Span Refusal → Reader
+passed reader (Ok s) = record reader { pos = s.after }
+passed reader (Err e) = reader
 
 -- one step after another, up to the first that refuses
 abbrev pub and_then : {A B : Type 0} → Result A Refusal → (A → Result B Refusal) → Result B Refusal

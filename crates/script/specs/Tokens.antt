@@ -88,5 +88,5 @@ shape End = end
 
 -- what the code answers
 abbrev pub said : Result Lexed Refusal → Lexing
-said (Ok l) = found (shape l.token) l.place l.after
+said (Ok l) = found (shape l.token) l.span.place l.span.after
 said (Err e) = refused e

@@ -1,5 +1,6 @@
 -- The words that no register may bear.
-use Rattle.std.specs.Prelude.{ℕ, Bool, false, ◌||◌, List, [], ◌∷◌, ◌++◌, codes}
+use Rattle.std.specs.Prelude.{ℕ, Bool, List, [], ◌∷◌, ◌++◌, codes}
+use Rattle.std.specs.List.{list_any}
 use Rattle.std.specs.Str.{bytes_eq}
 
 -- the operators
@@ -21,5 +22,4 @@ reserved_words = operator_words ++ other_words
 
 -- whether a text is one of these words, whole
 abbrev pub among : List (List ℕ) → List ℕ → Bool
-among [] text = false
-among (word ∷ words) text = bytes_eq word text || among words text
+among words text = list_any (λ word. bytes_eq word text) words

@@ -1,93 +1,86 @@
 // Declarations: the name, the parameters and the sort of a register.
-ghost use Rattle.std.specs.Prelude.{◌≡◌, ◌<◌, length, IfOk};
+ghost use Rattle.std.specs.Prelude.{◌≡◌, ◌<◌, IfOk};
 ghost use Rattle.script.specs.Tokens.{token_at};
 ghost use Rattle.script.specs.Words.{among};
+ghost use Rattle.script.specs.Steps.{and_then};
+ghost use Rattle.script.specs.Filled.{filled, room_of};
 ghost use Rattle.script.specs.Reading.{take_name, texts, text_in, sort_at, parameters_at, declaration_at};
 
-use crate::bytes::{between, same};
+use crate::bytes::between;
 use crate::command::{Declaration, Form};
 use crate::names::Name;
-use crate::refuse::{bad_name, full};
-use crate::steps::{close, name, number, open, word};
+use crate::steps::Reader;
+use crate::table::Table;
 use crate::token::Span;
 use crate::words::is_reserved;
-use refusal::Refusal;
+use refusal::{Cause, Refusal};
 
 // Whether one of the names so far is this text.
 fn is_taken(script: &[u8], names: &[Name], text: &[u8]) -> bool
     ensures { result ≡ among (texts (token_at script.now) (text_in script.now) names.now) text.now }
 {
-    for n in names {
-        if same(between(script, n.place, n.after), text) {
-            return true;
-        }
-    }
-    false
+    names
+        .iter()
+        .any(|n| between(script, n.place, n.after) == text)
 }
 
 // A register's name at a span, unless it is reserved or repeated or there is no room for it.
-fn take_name(script: &[u8], names: &[Name], room: usize, span: Span) -> Result<Span, Refusal>
-    ensures value { result ≡ take_name (texts (token_at script.now) (text_in script.now) names.now) room (text_in script.now span.place span.after) span }
-    ensures room { IfOk result (λ s. length names.now < room) }
+fn take_name(script: &[u8], names: &Table<Name>, span: Span) -> Result<Span, Refusal>
+    ensures value { result ≡ take_name (texts (token_at script.now) (text_in script.now) (filled names.now)) (room_of names.now) (text_in script.now span.place span.after) span }
+    ensures place { IfOk result (λ s. s ≡ span) }
+    ensures room { IfOk result (λ s. names.now.used < room_of names.now) }
 {
     let text = between(script, span.place, span.after);
-    if is_reserved(text) {
-        return Err(bad_name(span.place));
+    if is_reserved(text) || is_taken(script, names.filled(), text) {
+        return Err(Cause::Name.at(span.place));
     }
-    if is_taken(script, names, text) {
-        return Err(bad_name(span.place));
-    }
-    if names.len() >= room {
-        return Err(full(span.place));
+    if names.is_full() {
+        return Err(Cause::Capacity.at(span.place));
     }
     Ok(span)
 }
 
-// ( _ BitVec k ): k, and the place after the sort.
-fn sort(script: &[u8], from: usize) -> Result<(u32, usize), Refusal>
-    ensures { result ≡ sort_at (token_at script.now) (text_in script.now) from }
-{
-    let first = open(script, from)?;
-    let mark = word(script, first.after, b"_")?;
-    let bits = word(script, mark.after, b"BitVec")?;
-    let width = number(script, bits.after)?;
-    let last = close(script, width.1)?;
-    Ok((width.0, last.after))
-}
-
-// What stands between a register's name and its sort: nothing, or ( ).
-fn parameters(script: &[u8], form: Form, from: usize) -> Result<usize, Refusal>
-    ensures { result ≡ parameters_at (token_at script.now) (text_in script.now) form from }
-{
-    match form {
-        Form::Constant => Ok(from),
-        Form::Function => {
-            let first = open(script, from)?;
-            let last = close(script, first.after)?;
-            Ok(last.after)
-        }
+impl<'a> Reader<'a> {
+    // ( _ BitVec k ): k.
+    fn sort(&mut self) -> Result<u32, Refusal>
+        ensures value { and_then result (λ k. Ok (k, self.new.pos)) ≡ sort_at (token_at self.old.script.now) (text_in self.old.script.now) self.old.pos }
+        ensures script { self.new.script ≡ self.old.script }
+    {
+        self.open()?;
+        self.word(b"_")?;
+        self.word(b"BitVec")?;
+        let width = self.number()?;
+        self.close()?;
+        Ok(width)
     }
-}
 
-// The rest of a declaration, after its word. `names` are those so far, and `room` is how many there may be.
-pub(crate) fn declaration(
-    script: &[u8],
-    names: &[Name],
-    room: usize,
-    form: Form,
-    from: usize,
-) -> Result<Declaration, Refusal>
-    ensures value { result ≡ declaration_at (token_at script.now) (text_in script.now) room form names.now from }
-    ensures room { IfOk result (λ d. length names.now < room) }
-{
-    let span = name(script, from)?;
-    let title = take_name(script, names, room, span)?;
-    let after = parameters(script, form, title.after)?;
-    let width = sort(script, after)?;
-    let last = close(script, width.1)?;
-    Ok(Declaration {
-        name: title,
-        width: width.0,
-        close: last,
-    })
+    // What stands between a register's name and its sort: nothing, or ( ).
+    fn parameters(&mut self, form: Form) -> Result<(), Refusal>
+        ensures value { and_then result (λ u. Ok self.new.pos) ≡ parameters_at (token_at self.old.script.now) (text_in self.old.script.now) form self.old.pos }
+        ensures script { self.new.script ≡ self.old.script }
+    {
+        if form == Form::Function {
+            self.open()?;
+            self.close()?;
+        }
+        Ok(())
+    }
+
+    // The rest of a declaration, after its word. The table holds the names so far.
+    pub(crate) fn declaration(
+        &mut self,
+        names: &Table<Name>,
+        form: Form,
+    ) -> Result<Declaration, Refusal>
+        ensures value { result ≡ declaration_at (token_at self.old.script.now) (text_in self.old.script.now) (room_of names.now) form (filled names.now) self.old.pos }
+        ensures reader { IfOk result (λ d. self.new ≡ record self.old { pos = d.close.after }) }
+        ensures room { IfOk result (λ d. names.now.used < room_of names.now) }
+    {
+        let name = self.name()?;
+        let name = take_name(self.script, names, name)?;
+        self.parameters(form)?;
+        let width = self.sort()?;
+        let close = self.close()?;
+        Ok(Declaration { name, width, close })
+    }
 }

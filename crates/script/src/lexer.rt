@@ -1,66 +1,36 @@
 // The tokens of a script, one at a time.
-ghost use Rattle.std.specs.Prelude.{◌≡◌, ◌+◌, length, IfOk};
+ghost use Rattle.std.specs.Prelude.{◌≡◌, ◌+◌, ◌<◌, length, slice_index, IfOk};
 ghost use Rattle.script.specs.Tokens.{is_constant, atom_token, token_at, shape, said};
 ghost use Rattle.script.specs.Found.{Numbered, Stands};
 
-use crate::bytes::{all_in, in_class, run_end, skip};
+use crate::bytes::skip;
 use crate::numeral::is_numeral;
-use crate::refuse::off_grammar;
-use crate::token::{Class, Lexed, Token};
-use refusal::Refusal;
+use crate::token::{Class, Lexed, Span, Token};
+use refusal::{Cause, Refusal};
 
 // Whether an atom is # with this letter and at least one digit of a class.
 fn is_constant(text: &[u8], letter: u8, class: Class) -> bool
     ensures { result ≡ is_constant letter class text.now }
 {
-    if text.len() <= 2 {
-        return false;
-    }
-    if text[1] != letter {
-        return false;
-    }
-    all_in(class, &text[2..])
+    text.len() > 2 && text[1] == letter && class.has_all(&text[2..])
 }
 
-// The token that an atom is. It stands from `place` to `after`, and its first byte decides.
-fn atom<'a>(first: u8, text: &'a [u8], place: usize, after: usize) -> Result<Lexed<'a>, Refusal>
-    requires { after ≡ place + length text.now }
-    ensures value { said result ≡ atom_token first text.now place }
-    ensures bound { IfOk result (λ l. (l.place ≡ place) × (l.after ≡ after)) }
+// The token that an atom is, if it is one: its first byte decides.
+fn atom<'a>(text: &'a [u8], span: Span) -> Result<Lexed<'a>, Refusal>
+    requires some { 0 < length text.now }
+    requires span { span.after ≡ span.place + length text.now }
+    ensures value { said result ≡ atom_token (slice_index text.now 0) text.now span.place }
+    ensures bound { IfOk result (λ l. l.span ≡ span) }
     ensures number { IfOk result (λ l. Numbered (shape l.token)) }
 {
-    if in_class(Class::Digit, first) {
-        if is_numeral(text) {
-            return Ok(Lexed {
-                token: Token::Numeral(text),
-                place,
-                after,
-            });
-        }
-        return Err(off_grammar(place));
-    }
-    if first == b'#' {
-        if is_constant(text, b'b', Class::Bit) {
-            return Ok(Lexed {
-                token: Token::Binary(text),
-                place,
-                after,
-            });
-        }
-        if is_constant(text, b'x', Class::HexDigit) {
-            return Ok(Lexed {
-                token: Token::Hex(text),
-                place,
-                after,
-            });
-        }
-        return Err(off_grammar(place));
-    }
-    Ok(Lexed {
-        token: Token::Name(text),
-        place,
-        after,
-    })
+    let token = match text[0] {
+        b'0'..=b'9' if is_numeral(text) => Token::Numeral(text),
+        b'#' if is_constant(text, b'b', Class::Bit) => Token::Binary(text),
+        b'#' if is_constant(text, b'x', Class::HexDigit) => Token::Hex(text),
+        b'0'..=b'9' | b'#' => return Err(Cause::Grammar.at(span.place)),
+        _ => Token::Name(text),
+    };
+    Ok(Lexed { token, span })
 }
 
 // The first token from `from` on, blanks and comments passed over. A malformed atom, or a byte that
@@ -72,30 +42,15 @@ pub fn next<'a>(script: &'a [u8], from: usize) -> Result<Lexed<'a>, Refusal>
 {
     let place = skip(script, from);
     if place >= script.len() {
-        return Ok(Lexed {
-            token: Token::End,
-            place,
-            after: place,
-        });
+        return Ok(Lexed::new(Token::End, place, place));
     }
-    let b = script[place];
-    if b == b'(' {
-        return Ok(Lexed {
-            token: Token::Open,
-            place,
-            after: place + 1,
-        });
+    match script[place] {
+        b'(' => Ok(Lexed::new(Token::Open, place, place + 1)),
+        b')' => Ok(Lexed::new(Token::Close, place, place + 1)),
+        b if Class::Atom.has(b) => {
+            let after = place + Class::Atom.run(&script[place..]);
+            atom(&script[place..after], Span { place, after })
+        }
+        _ => Err(Cause::Grammar.at(place)),
     }
-    if b == b')' {
-        return Ok(Lexed {
-            token: Token::Close,
-            place,
-            after: place + 1,
-        });
-    }
-    if !in_class(Class::Atom, b) {
-        return Err(off_grammar(place));
-    }
-    let after = run_end(script, Class::Atom, place);
-    atom(b, &script[place..after], place, after)
 }

@@ -13,8 +13,8 @@ pub mod lexer;
 pub mod names;
 pub mod numeral;
 pub mod read;
-mod refuse;
 mod steps;
+mod table;
 #[cfg(test)]
 mod tests;
 pub mod token;

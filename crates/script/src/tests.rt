@@ -1,7 +1,7 @@
 // Reading into tables of other lengths than the program's, and the length of a script.
 use crate::names::Name;
 use crate::read::read;
-use refusal::{Cause, Refusal};
+use refusal::Cause;
 use source::order::{Act, Order};
 use std::test::Fail;
 
@@ -29,10 +29,6 @@ const BLANK_NAME: Name = Name {
     after: 0,
     row: 0,
 };
-
-fn refused(cause: Cause, at: usize) -> Result<usize, Refusal> {
-    Err(Refusal { cause, at })
-}
 
 #[test]
 fn fills_both_tables(rt: HostRuntime) {
@@ -78,19 +74,19 @@ fn uses_short_tables_to_their_ends(rt: HostRuntime) {
     let mut names = [USED_NAME; 2];
     assert_eq!(rt;
         read(TWO, &mut orders[0..1], &mut names),
-        refused(Cause::Capacity, 78),
+        Err(Cause::Capacity.at(78)),
         "the parenthesis that completes the order"
     );
     assert_eq!(rt; orders, [BLANK_ORDER, USED_ORDER]);
     assert_eq!(rt; names, [BLANK_NAME, BLANK_NAME]);
     assert_eq!(rt;
         read(TWO, &mut orders, &mut names[0..1]),
-        refused(Cause::Capacity, 60),
+        Err(Cause::Capacity.at(60)),
         "the name"
     );
     assert_eq!(rt;
         read(TWO, &mut orders[0..0], &mut names[0..0]),
-        refused(Cause::Capacity, 32)
+        Err(Cause::Capacity.at(32))
     );
     assert_eq!(rt;
         read(
@@ -107,17 +103,15 @@ fn stops_at_the_limits(rt: HostRuntime) -> Result<(), Fail> {
     let mut orders = [USED_ORDER; 1];
     let mut names = [USED_NAME; 1];
     let mut script = TWO.to_vec(rt.alloc())?;
-    for i in TWO.len()..65536 {
-        script.push(b' ')?;
-    }
+    script.resize(65536, b' ')?;
     assert_eq!(rt;
         read(&script, &mut orders, &mut names),
-        refused(Cause::Capacity, 60)
+        Err(Cause::Capacity.at(60))
     );
     script.push(b' ')?;
     assert_eq!(rt;
         read(&script, &mut orders, &mut names),
-        refused(Cause::Capacity, 65536)
+        Err(Cause::Capacity.at(65536))
     );
     assert_eq!(rt; orders, [BLANK_ORDER]);
     Ok(())

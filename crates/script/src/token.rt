@@ -1,7 +1,8 @@
 // The tokens of a script.
+ghost use Rattle.std.specs.Prelude.{◌≡◌};
 
 // The classes of bytes that runs are made of.
-#[derive(Clone, Copy)]
+#[derive(Clone, Copy, PartialEq, Eq, Debug)]
 pub enum Class {
     // a byte of an atom: 33 to 126 without ( ) ;
     Atom,
@@ -11,7 +12,7 @@ pub enum Class {
 }
 
 // A token. Where it has a text, that is the part of the script it was read from.
-#[derive(Clone, Copy)]
+#[derive(Clone, Copy, PartialEq, Eq, Debug)]
 pub enum Token<'a> {
     Open,
     Close,
@@ -25,17 +26,28 @@ pub enum Token<'a> {
     End,
 }
 
-// A token with the place of its first byte and the place after its last one.
-#[derive(Clone, Copy)]
-pub struct Lexed<'a> {
-    pub token: Token<'a>,
+// The place of a token's first byte, and the place after its last one.
+#[derive(Clone, Copy, PartialEq, Eq, Debug)]
+pub struct Span {
     pub place: usize,
     pub after: usize,
 }
 
-// The place of a token's first byte, and the place after its last one.
-#[derive(Clone, Copy)]
-pub struct Span {
-    pub place: usize,
-    pub after: usize,
+// A token, and where it stands.
+#[derive(Clone, Copy, PartialEq, Eq, Debug)]
+pub struct Lexed<'a> {
+    pub token: Token<'a>,
+    pub span: Span,
+}
+
+impl<'a> Lexed<'a> {
+    // The token that stands from one place to another.
+    pub(crate) fn new(token: Token<'a>, place: usize, after: usize) -> Self
+        ensures { result ≡ record { token = token.entry; span = record { place = place; after = after } } }
+    {
+        Lexed {
+            token,
+            span: Span { place, after },
+        }
+    }
 }

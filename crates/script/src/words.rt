@@ -1,10 +1,9 @@
 // The reserved words: no register may bear one.
-ghost use Rattle.std.specs.Prelude.{◌≡◌, ◌<◌, [], slice_index_or};
-ghost use Rattle.script.specs.Words.{operator_words, other_words, reserved_words, among};
+ghost use Rattle.std.specs.Prelude.{◌≡◌};
+ghost use Rattle.script.specs.Words.{reserved_words, among};
 
-use crate::bytes::same;
-
-// An operator of the terms.
+// An operator of the terms. A record, though it has but a name yet: what else belongs to an operator goes into the same
+// constant table.
 #[derive(Clone, Copy)]
 pub struct Operator {
     pub name: &'static [u8],
@@ -54,39 +53,9 @@ pub const WORDS: [&'static [u8]; 9] = [
     b"false",
 ];
 
-fn operator_name(i: usize) -> &'static [u8]
-    requires { i < 28 }
-    ensures { result.now ≡ slice_index_or operator_words i [] }
-{
-    OPERATORS[i].name
-}
-
-fn other_word(i: usize) -> &'static [u8]
-    requires { i < 9 }
-    ensures { result.now ≡ slice_index_or other_words i [] }
-{
-    WORDS[i]
-}
-
-// The reserved word of this number: the operators come first.
-fn reserved_word(i: usize) -> &'static [u8]
-    requires { i < 37 }
-    ensures { result.now ≡ slice_index_or reserved_words i [] }
-{
-    if i < OPERATORS.len() {
-        operator_name(i)
-    } else {
-        other_word(i - OPERATORS.len())
-    }
-}
-
+// Whether a text is one of the reserved words, whole.
 pub fn is_reserved(text: &[u8]) -> bool
     ensures { result ≡ among reserved_words text.now }
 {
-    for i in 0..OPERATORS.len() + WORDS.len() {
-        if same(reserved_word(i), text) {
-            return true;
-        }
-    }
-    false
+    OPERATORS.iter().any(|o| o.name == text) || WORDS.iter().any(|w| *w == text)
 }

@@ -2,15 +2,12 @@
 use Rattle.std.proofs.Common.{ℕ, ◌+◌, ◌-◌, ◌/◌, ◌%◌, ◌^◌, ◌<◌, eqb, mod-lt, div-le_self, arith, pow_pos, pow-add}
 use native.Mathlib.Nat.{mod-le}
 use lib.Arith.{digits_lt}
-use lib.Pow.{ones_lt, ones_sub-lt}
+use lib.Pow.{ones_lt}
 use Rattle.std.proofs.lemmas.Bool.{cond_both}
-use Rattle.source.specs.Numbers.{complement, quotient, remainder, joined}
+use Rattle.source.specs.Numbers.{quotient, remainder, joined}
 
 pub rolled_lt : (k n : ℕ) → n % 2 ^ k < 2 ^ k
 rolled_lt k n = mod-lt n (pow_pos k)
-
-pub complement_lt : (k a : ℕ) → complement k a < 2 ^ k
-complement_lt k a = ones_sub-lt k a
 
 pub quotient_lt : (k a b : ℕ) → a < 2 ^ k → quotient k a b < 2 ^ k
 quotient_lt k a b h = cond_both (eqb b 0) (2 ^ k - 1) (a / b) (λ n. n < 2 ^ k) (λ _. ones_lt k) (λ _. omega (arith, div-le_self a b))

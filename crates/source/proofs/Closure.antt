@@ -1,7 +1,7 @@
 -- What an operator gives for operands that it takes is a value of the sort that it has.
 use Rattle.std.proofs.Common.{◌≡◌, ℕ, ◌+◌, ◌-◌, ◌*◌, ◌/◌, ◌^◌, ◌<◌, ◌≤◌, Bool, true, false, cond, ◌&&◌, ltb, leb, sym, refl, arith}
 use lib.Bits.{and_lt, or_lt, xor_lt}
-use lib.Pow.{shr_le}
+use lib.Pow.{ones_sub-lt, shr_le}
 use Rattle.std.proofs.lemmas.Bool.{and_parts, cond-true, cond_both, leb-true, ltb-true}
 use Rattle.source.specs.Numbers.{extracted, joined}
 use Rattle.source.specs.Sorts.{is_bool, is_bits, width_of, alike, result_sort}
@@ -12,7 +12,7 @@ use Rattle.source.specs.declared.operator.Operator.TheVariants.{BvNot, BvNeg, Bv
 use Rattle.source.specs.declared.order.Sort as sorts
 use Rattle.source.specs.declared.value.Value as values
 use Rattle.source.specs.declared.value.Value.{Value}
-use Rattle.source.proofs.Bounds.{rolled_lt, complement_lt, quotient_lt, remainder_lt, joined_lt}
+use Rattle.source.proofs.Bounds.{rolled_lt, quotient_lt, remainder_lt, joined_lt}
 use Rattle.source.proofs.Taking.{Taken, parts, number, is_number, bits_sort, width_is, alike_same, pair}
 
 -- a number of the first operand's width, given that it is below its power
@@ -52,7 +52,7 @@ chosen t b c hb hc h =
 
 -- the same for every operator, by the parts of its test
 given_closed : (op : Operator) (a b c : Value) → Taken op a b c → IsOf (given op a b c) (result_sort op (sort_of a) (sort_of b) (sort_of c))
-given_closed BvNot a b c t = kept a _ (and_parts (is_value a) true t.values).0 t.sorts (λ _. complement_lt (bits_of a) (number_of a))
+given_closed BvNot a b c t = kept a _ (and_parts (is_value a) true t.values).0 t.sorts (λ _. ones_sub-lt (bits_of a) (number_of a))
 given_closed BvNeg a b c t = kept a _ (and_parts (is_value a) true t.values).0 t.sorts (λ _. rolled_lt (bits_of a) (2 ^ bits_of a - number_of a))
 given_closed BvAdd a b c t = kept_two a b c _ t.values t.sorts (λ _. rolled_lt (bits_of a) (number_of a + number_of b))
 given_closed BvSub a b c t = kept_two a b c _ t.values t.sorts (λ _. rolled_lt (bits_of a) (2 ^ bits_of a + number_of a - number_of b))

@@ -5,3 +5,4 @@ pub mod Closure
 pub mod OneBit
 pub mod Rolling
 pub mod Signs
+pub mod Parsing

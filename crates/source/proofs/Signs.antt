@@ -1,12 +1,12 @@
 -- The signed order and the signed numbers.
 use Rattle.std.proofs.Common.{◌≡◌, ℕ, suc, ◌+◌, ◌-◌, ◌*◌, ◌%◌, ◌^◌, ◌<◌, ◌≤◌, ltb, ◌⊎◌, pos, ◌+ℤ◌, ◌-ℤ◌, Decides, refl, ap, ◌∙◌, inl, inr, mod-eq_of_lt, arith, pow_pos}
 use native.Mathlib.Nat.{two-pow-succ, div-eq_of_lt, div-eq-sub-div}
-use Rattle.std.specs.Int.{int_rem_euclid}
+use Rattle.std.specs.Int.{bit_at, int_rem_euclid}
 use Rattle.std.proofs.lemmas.Int.{ints, int_rem_euclid_is}
 use Rattle.std.proofs.lemmas.Bool.{cases_lt, cond-true, cond-false, lt-ltb, le-ltb}
 use Rattle.std.proofs.lemmas.Bool.Decides.{nat_tests}
 use Rattle.source.specs.Numbers.{signed, signed_less, signed_at_most}
-use Rattle.source.specs.Laws.{bit_at, Before, Signed}
+use Rattle.source.specs.Laws.{Before, Signed}
 
 half : (k : ℕ) → 1 ≤ k → 2 ^ k ≡ 2 ^ (k - 1) + 2 ^ (k - 1)
 half k h = let e : k ≡ suc (k - 1) = omega arith in ap (λ n. 2 ^ n) e ∙ two-pow-succ (k - 1)
@@ -14,12 +14,12 @@ half k h = let e : k ≡ suc (k - 1) = omega arith in ap (λ n. 2 ^ n) e ∙ two
 -- a number and its sign: the top bit, and the signed number
 record Low (k a : ℕ) : Type 0 where
   below : a < 2 ^ (k - 1)
-  top : bit_at (k - 1) a ≡ 0
+  top : bit_at a (k - 1) ≡ 0
   is : signed k a ≡ pos a
 
 record High (k a : ℕ) : Type 0 where
   above : 2 ^ (k - 1) ≤ a
-  top : bit_at (k - 1) a ≡ 1
+  top : bit_at a (k - 1) ≡ 1
   is : signed k a ≡ pos a -ℤ pos (2 ^ k)
 
 by_sign : (k a : ℕ) → 1 ≤ k → a < 2 ^ k → Low k a ⊎ High k a

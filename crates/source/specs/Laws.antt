@@ -1,20 +1,16 @@
 -- What the standard says of the values of operators, where its words differ from the definitions: bit by bit,
 -- by what gives zero, by the top bits, by what was divided. Numbers of k bits lie below 2 ^ k.
-use Rattle.std.specs.Prelude.{◌≡◌, ℕ, ◌+◌, ◌-◌, ◌*◌, ◌/◌, ◌%◌, ◌^◌, ◌<◌, ◌≤◌, max, ◌⊎◌, pos, neg_ℤ, ◌≤ℤ◌, ◌<ℤ◌, Decides, bit_and, bit_or, bit_xor}
-use Rattle.std.specs.Int.{int_rem_euclid}
+use Rattle.std.specs.Prelude.{◌≡◌, ℕ, ◌+◌, ◌-◌, ◌*◌, ◌%◌, ◌^◌, ◌<◌, ◌≤◌, max, ◌⊎◌, pos, neg_ℤ, ◌≤ℤ◌, ◌<ℤ◌, Decides, bit_and, bit_or, bit_xor}
+use Rattle.std.specs.Int.{bit_at, int_rem_euclid}
 use Rattle.source.specs.Numbers.{complement, negated, sum, difference, quotient, remainder, extracted, joined, shifted_right, shifted_left, signed, signed_less, signed_at_most}
-
--- bit i of a number
-abbrev pub bit_at : ℕ → ℕ → ℕ
-bit_at i n = n / 2 ^ i % 2
 
 -- bit i of a conjunction is 1 where both bits are, of a disjunction where one is, of an exclusive one where the
 -- bits differ, of a complement where the bit is 0; and no bit stands past the width
 pub record Bitwise (k a b : ℕ) : Type 0 where
-  pub both : (i : ℕ) → i < k → bit_at i (bit_and a b) ≡ bit_at i a * bit_at i b
-  pub one : (i : ℕ) → i < k → bit_at i (bit_or a b) ≡ max (bit_at i a) (bit_at i b)
-  pub differ : (i : ℕ) → i < k → bit_at i (bit_xor a b) ≡ (bit_at i a + bit_at i b) % 2
-  pub turned : (i : ℕ) → i < k → bit_at i (complement k a) ≡ 1 - bit_at i a
+  pub both : (i : ℕ) → i < k → bit_at (bit_and a b) i ≡ bit_at a i * bit_at b i
+  pub one : (i : ℕ) → i < k → bit_at (bit_or a b) i ≡ max (bit_at a i) (bit_at b i)
+  pub differ : (i : ℕ) → i < k → bit_at (bit_xor a b) i ≡ (bit_at a i + bit_at b i) % 2
+  pub turned : (i : ℕ) → i < k → bit_at (complement k a) i ≡ 1 - bit_at a i
   pub within : (bit_and a b < 2 ^ k) × (bit_or a b < 2 ^ k) × (bit_xor a b < 2 ^ k) × (complement k a < 2 ^ k)
 
 abbrev pub BitByBit : Type 0
@@ -39,11 +35,11 @@ Differences = (k a b : ℕ) → a < 2 ^ k → b < 2 ^ k → Difference k a b
 
 -- a shift by b places moves every bit so many places; what comes in is 0, and after k places nothing is left
 pub record Shifted (k a b : ℕ) : Type 0 where
-  pub left : (i : ℕ) → i < k → b ≤ i → bit_at i (shifted_left k a b) ≡ bit_at (i - b) a
-  pub left_in : (i : ℕ) → i < k → i < b → bit_at i (shifted_left k a b) ≡ 0
+  pub left : (i : ℕ) → i < k → b ≤ i → bit_at (shifted_left k a b) i ≡ bit_at a (i - b)
+  pub left_in : (i : ℕ) → i < k → i < b → bit_at (shifted_left k a b) i ≡ 0
   pub left_out : k ≤ b → shifted_left k a b ≡ 0
-  pub right : (i : ℕ) → bit_at i (shifted_right a b) ≡ bit_at (i + b) a
-  pub right_in : (i : ℕ) → k ≤ i + b → bit_at i (shifted_right a b) ≡ 0
+  pub right : (i : ℕ) → bit_at (shifted_right a b) i ≡ bit_at a (i + b)
+  pub right_in : (i : ℕ) → k ≤ i + b → bit_at (shifted_right a b) i ≡ 0
   pub right_out : k ≤ b → shifted_right a b ≡ 0
 
 abbrev pub Shifts : Type 0
@@ -51,7 +47,7 @@ Shifts = (k a b : ℕ) → a < 2 ^ k → Shifted k a b
 
 -- the signed order: a negative number, which has top bit 1, comes before one with top bit 0; else the numbers decide
 abbrev pub Before : ℕ → ℕ → ℕ → Type 0 → Type 0
-Before k a b P = ((bit_at (k - 1) a ≡ 1) × (bit_at (k - 1) b ≡ 0)) ⊎ ((bit_at (k - 1) a ≡ bit_at (k - 1) b) × P)
+Before k a b P = ((bit_at a (k - 1) ≡ 1) × (bit_at b (k - 1) ≡ 0)) ⊎ ((bit_at a (k - 1) ≡ bit_at b (k - 1)) × P)
 
 abbrev pub SignedOrder : Type 0
 SignedOrder = (k a b : ℕ) → 1 ≤ k → a < 2 ^ k → b < 2 ^ k → Decides (signed_less k a b) (Before k a b (a < b)) × Decides (signed_at_most k a b) (Before k a b (a ≤ b))
@@ -90,7 +86,7 @@ JoinedAgain = (k l a : ℕ) → 1 ≤ l → l < k → a < 2 ^ k → joined l (ex
 -- what is taken out has so many bits, each of them where it stood
 pub record Part (upper lower a : ℕ) : Type 0 where
   pub below : extracted upper lower a < 2 ^ (upper - lower + 1)
-  pub bits : (i : ℕ) → i ≤ upper - lower → bit_at i (extracted upper lower a) ≡ bit_at (i + lower) a
+  pub bits : (i : ℕ) → i ≤ upper - lower → bit_at (extracted upper lower a) i ≡ bit_at a (i + lower)
 
 abbrev pub Parts : Type 0
 Parts = (upper lower a : ℕ) → Part upper lower a

@@ -3,17 +3,40 @@ use Rattle.std.specs.Prelude.{ℕ, ◌+◌, ◌-◌, Bool, true, false, ◌&&◌
 use Rattle.source.specs.declared.operator.Operator.{Operator}
 use Rattle.source.specs.declared.operator.Operator.TheVariants.{BvNot, BvNeg, BvAdd, BvSub, BvMul, BvUdiv, BvUrem, Extract, Concat, BvAnd, BvOr, BvXor, BvLshr, BvShl, BvUlt, BvUle, BvUgt, BvUge, BvSlt, BvSle, BvSgt, BvSge, Equal, Not, And, Or, Ite, Implies}
 use Rattle.source.specs.declared.order.Sort as sorts
+use Rattle.source.specs.declared.shape.Shape as shapes
 use Rattle.source.specs.declared.order.Sort.{Sort}
 
 -- what an operator asks of the sorts of its operands
-pub data Shape : Type 0 where
-  one_bits : Shape  -- one of bits
-  two_bits : Shape  -- two of bits, of one width
-  any_bits : Shape  -- two of bits, of any widths
-  one_truth : Shape  -- one truth value
-  two_truths : Shape  -- two truth values
-  two_alike : Shape  -- two of one sort
-  choice : Shape  -- a truth value, and two of one sort
+abbrev pub Shape : Type 0
+Shape = shapes.Shape
+
+-- one of bits
+pattern abbrev pub one_bits : Shape
+one_bits = shapes.TheVariants.OneBits
+
+-- two of bits, of one width
+pattern abbrev pub two_bits : Shape
+two_bits = shapes.TheVariants.TwoBits
+
+-- two of bits, of any widths
+pattern abbrev pub any_bits : Shape
+any_bits = shapes.TheVariants.AnyBits
+
+-- one truth value
+pattern abbrev pub one_truth : Shape
+one_truth = shapes.TheVariants.OneTruth
+
+-- two truth values
+pattern abbrev pub two_truths : Shape
+two_truths = shapes.TheVariants.TwoTruths
+
+-- two of one sort
+pattern abbrev pub two_alike : Shape
+two_alike = shapes.TheVariants.TwoAlike
+
+-- a truth value, and two of one sort
+pattern abbrev pub choice : Shape
+choice = shapes.TheVariants.Choice
 
 abbrev pub shape_of : Operator → Shape
 shape_of BvNot = one_bits

@@ -1,33 +1,39 @@
-// Sums, differences, products and negatives of numbers below 2^k, rolling over at 2^k.
-ghost use Rattle.std.specs.Prelude.{◌≡◌, ◌^◌, ◌<◌, ◌≤◌};
+// Sums, differences, products and negatives of bit-vectors of width k, rolling over at 2^k.
+ghost use Rattle.std.specs.Prelude.{◌≡◌};
 ghost use Rattle.source.specs.Numbers.{negated, sum, difference, product};
 
-pub(crate) fn negate(k: u32, a: u64) -> u64
-    requires { (k ≤ 32) × (a < 2 ^ k) }
-    ensures { result ≡ negated k a }
-{
-    let size = 1u64 << k;
-    (size - a) % size
+use crate::bit_vector::BitVector;
+use crate::pair::Pair;
+
+impl BitVector {
+    pub(crate) fn negative(self) -> BitVector
+        ensures width { result.width ≡ self.width }
+        ensures number { result.number ≡ negated self.width.bits self.number }
+    {
+        BitVector::rolled(self.width, (1u64 << self.width.bits()) - self.number)
+    }
 }
 
-pub(crate) fn add(k: u32, a: u64, b: u64) -> u64
-    requires { (k ≤ 32) × ((a < 2 ^ k) × (b < 2 ^ k)) }
-    ensures { result ≡ sum k a b }
-{
-    (a + b) % (1u64 << k)
-}
+impl Pair {
+    pub(crate) fn sum(self) -> BitVector
+        ensures width { result.width ≡ self.width }
+        ensures number { result.number ≡ sum self.width.bits self.left self.right }
+    {
+        BitVector::rolled(self.width, self.left + self.right)
+    }
 
-pub(crate) fn subtract(k: u32, a: u64, b: u64) -> u64
-    requires { (k ≤ 32) × ((a < 2 ^ k) × (b < 2 ^ k)) }
-    ensures { result ≡ difference k a b }
-{
-    let size = 1u64 << k;
-    (size + a - b) % size
-}
+    pub(crate) fn difference(self) -> BitVector
+        ensures width { result.width ≡ self.width }
+        ensures number { result.number ≡ difference self.width.bits self.left self.right }
+    {
+        let size = 1u64 << self.width.bits();
+        BitVector::rolled(self.width, size + self.left - self.right)
+    }
 
-pub(crate) fn multiply(k: u32, a: u64, b: u64) -> u64
-    requires { (k ≤ 32) × ((a < 2 ^ k) × (b < 2 ^ k)) }
-    ensures { result ≡ product k a b }
-{
-    (a * b) % (1u64 << k)
+    pub(crate) fn product(self) -> BitVector
+        ensures width { result.width ≡ self.width }
+        ensures number { result.number ≡ product self.width.bits self.left self.right }
+    {
+        BitVector::rolled(self.width, self.left * self.right)
+    }
 }

@@ -1,32 +1,18 @@
-// The signed order of numbers below 2^k: the top bit counts as -2^(k - 1).
-ghost use Rattle.std.specs.Prelude.{◌≡◌, ◌-◌, ◌^◌, ◌<◌, ◌≤◌, nat_le};
-ghost use Rattle.source.specs.Numbers.{signed_less, signed_at_most};
+// The signed order of bit-vectors.
+ghost use Rattle.std.specs.Prelude.{◌≡◌};
+ghost use Rattle.std.specs.Ordering.{int_cmp};
+ghost use Rattle.source.specs.Numbers.{signed};
 
-fn is_negative(k: u32, a: u64) -> bool
-    requires { (1 ≤ k) × (k ≤ 32) }
-    ensures { result ≡ nat_le (2 ^ (k - 1)) a }
-{
-    1u64 << (k - 1) <= a
-}
+use crate::bit_vector::BitVector;
+use crate::pair::Pair;
+use std::cmp::Ordering;
 
-pub(crate) fn less(k: u32, a: u64, b: u64) -> bool
-    requires { (1 ≤ k) × ((k ≤ 32) × ((a < 2 ^ k) × (b < 2 ^ k))) }
-    ensures { result ≡ signed_less k a b }
-{
-    if is_negative(k, a) == is_negative(k, b) {
-        a < b
-    } else {
-        is_negative(k, a)
-    }
-}
-
-pub(crate) fn at_most(k: u32, a: u64, b: u64) -> bool
-    requires { (1 ≤ k) × ((k ≤ 32) × ((a < 2 ^ k) × (b < 2 ^ k))) }
-    ensures { result ≡ signed_at_most k a b }
-{
-    if is_negative(k, a) == is_negative(k, b) {
-        a <= b
-    } else {
-        is_negative(k, a)
+impl Pair {
+    pub(crate) fn signed_cmp(self) -> Ordering
+        ensures { result ≡ int_cmp (signed self.width.bits self.left) (signed self.width.bits self.right) }
+    {
+        let left = BitVector::of(self.width, self.left);
+        let right = BitVector::of(self.width, self.right);
+        left.signed().cmp(&right.signed())
     }
 }

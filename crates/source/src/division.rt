@@ -1,16 +1,32 @@
-// Division of numbers below 2^k. By zero it gives all ones, and the dividend as remainder.
-ghost use Rattle.std.specs.Prelude.{◌≡◌, ◌≤◌};
+// Division of bit-vectors. By zero it gives all ones, and the dividend as remainder.
+ghost use Rattle.std.specs.Prelude.{◌≡◌};
 ghost use Rattle.source.specs.Numbers.{quotient, remainder};
 
-pub(crate) fn divide(k: u32, a: u64, b: u64) -> u64
-    requires { k ≤ 32 }
-    ensures { result ≡ quotient k a b }
-{
-    if b == 0 { (1u64 << k) - 1 } else { a / b }
-}
+use crate::bit_vector::BitVector;
+use crate::pair::Pair;
 
-pub(crate) fn left_over(a: u64, b: u64) -> u64
-    ensures { result ≡ remainder a b }
-{
-    if b == 0 { a } else { a % b }
+impl Pair {
+    pub(crate) fn quotient(self) -> BitVector
+        ensures width { result.width ≡ self.width }
+        ensures number { result.number ≡ quotient self.width.bits self.left self.right }
+    {
+        let number = if self.right == 0 {
+            (1u64 << self.width.bits()) - 1
+        } else {
+            self.left / self.right
+        };
+        BitVector::of(self.width, number)
+    }
+
+    pub(crate) fn remainder(self) -> BitVector
+        ensures width { result.width ≡ self.width }
+        ensures number { result.number ≡ remainder self.left self.right }
+    {
+        let number = if self.right == 0 {
+            self.left
+        } else {
+            self.left % self.right
+        };
+        BitVector::of(self.width, number)
+    }
 }

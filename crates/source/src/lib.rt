@@ -7,13 +7,17 @@
 
 pub mod apply;
 mod arithmetic;
+mod bit_vector;
 mod bitwise;
 mod comparisons;
 mod division;
 pub mod laws;
 pub mod operator;
 pub mod order;
+mod pair;
+pub mod shape;
 mod shifts;
 mod sorts;
+pub mod text;
 pub mod value;
 pub mod width;

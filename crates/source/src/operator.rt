@@ -1,8 +1,10 @@
-// The operators of the language: how many operands each takes, of which sorts, and the sort of what it gives.
+// The operators of the language: how many operands each takes, of which sorts, and the sort of what it gives. The sorts of
+// operands stand side by side: a struct would be built at each call, and taken apart in it.
 ghost use Rattle.std.specs.Prelude.{◌≡◌, true, false, ◌&&◌, MatchOption};
 ghost use Rattle.source.specs.Sorts.{shape_of, count_of, fits, in_bounds, result_sort};
 
 use crate::order::Sort;
+use crate::shape::Shape;
 
 // An operator with what belongs to it besides its operands: extract's upper and lower bit.
 #[derive(Clone, Copy, PartialEq, Eq, Debug)]
@@ -38,55 +40,42 @@ pub enum Operator {
 }
 
 impl Operator {
-    pub fn operands(self) -> usize
-        ensures { result ≡ count_of (shape_of self) }
+    pub fn shape(self) -> Shape
+        ensures { result ≡ shape_of self }
     {
         match self {
-            Operator::BvNot | Operator::BvNeg | Operator::Extract(_, _) | Operator::Not => 1,
+            Operator::BvNot | Operator::BvNeg | Operator::Extract(_, _) => Shape::OneBits,
             Operator::BvAdd
             | Operator::BvSub
             | Operator::BvMul
             | Operator::BvUdiv
-            | Operator::BvUrem => 2,
-            Operator::Concat
-            | Operator::BvAnd
+            | Operator::BvUrem => Shape::TwoBits,
+            Operator::BvAnd
             | Operator::BvOr
             | Operator::BvXor
             | Operator::BvLshr
-            | Operator::BvShl => 2,
-            Operator::BvUlt | Operator::BvUle | Operator::BvUgt | Operator::BvUge => 2,
-            Operator::BvSlt | Operator::BvSle | Operator::BvSgt | Operator::BvSge => 2,
-            Operator::Equal | Operator::And | Operator::Or | Operator::Implies => 2,
-            Operator::Ite => 3,
+            | Operator::BvShl => Shape::TwoBits,
+            Operator::BvUlt | Operator::BvUle | Operator::BvUgt | Operator::BvUge => Shape::TwoBits,
+            Operator::BvSlt | Operator::BvSle | Operator::BvSgt | Operator::BvSge => Shape::TwoBits,
+            Operator::Concat => Shape::AnyBits,
+            Operator::Equal => Shape::TwoAlike,
+            Operator::Not => Shape::OneTruth,
+            Operator::And | Operator::Or | Operator::Implies => Shape::TwoTruths,
+            Operator::Ite => Shape::Choice,
         }
+    }
+
+    pub fn operands(self) -> usize
+        ensures { result ≡ count_of (shape_of self) }
+    {
+        self.shape().operands()
     }
 
     // Whether operands of these sorts are taken; an operand that there is not is not looked at.
     pub fn fits(self, a: Sort, b: Sort, c: Sort) -> bool
         ensures { result ≡ fits (shape_of self) a b c }
     {
-        match self {
-            Operator::BvNot | Operator::BvNeg | Operator::Extract(_, _) => a.is_bits(),
-            Operator::BvAdd
-            | Operator::BvSub
-            | Operator::BvMul
-            | Operator::BvUdiv
-            | Operator::BvUrem => a.is_bits() && a.alike(b),
-            Operator::BvAnd
-            | Operator::BvOr
-            | Operator::BvXor
-            | Operator::BvLshr
-            | Operator::BvShl => a.is_bits() && a.alike(b),
-            Operator::BvUlt | Operator::BvUle | Operator::BvUgt | Operator::BvUge => a.is_bits()
-                && a.alike(b),
-            Operator::BvSlt | Operator::BvSle | Operator::BvSgt | Operator::BvSge => a.is_bits()
-                && a.alike(b),
-            Operator::Concat => a.is_bits() && b.is_bits(),
-            Operator::Equal => a.alike(b),
-            Operator::Not => a.is_bool(),
-            Operator::And | Operator::Or | Operator::Implies => a.is_bool() && b.is_bool(),
-            Operator::Ite => a.is_bool() && b.alike(c),
-        }
+        self.shape().fits(a, b, c)
     }
 
     // Whether extract's bounds lie within its operand, and a concatenation within 32 bits.
@@ -118,22 +107,12 @@ impl Operator {
         match self {
             Operator::Extract(upper, lower) => Sort::Bits(upper - lower + 1),
             Operator::Concat => Sort::Bits(a.width() + b.width()),
-            Operator::BvNot | Operator::BvNeg => a,
-            Operator::BvAdd
-            | Operator::BvSub
-            | Operator::BvMul
-            | Operator::BvUdiv
-            | Operator::BvUrem => a,
-            Operator::BvAnd
-            | Operator::BvOr
-            | Operator::BvXor
-            | Operator::BvLshr
-            | Operator::BvShl => a,
+            Operator::Ite => b,
             Operator::BvUlt | Operator::BvUle | Operator::BvUgt | Operator::BvUge => Sort::Bool,
             Operator::BvSlt | Operator::BvSle | Operator::BvSgt | Operator::BvSge => Sort::Bool,
             Operator::Equal | Operator::Not | Operator::And | Operator::Or | Operator::Implies =>
                 Sort::Bool,
-            Operator::Ite => b,
+            _ => a,
         }
     }
 }

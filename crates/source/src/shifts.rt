@@ -1,28 +1,32 @@
-// Shifts of numbers below 2^k. No bit is left after k places or more.
-ghost use Rattle.std.specs.Prelude.{◌≡◌, ◌^◌, ◌<◌, ◌≤◌, nat_lt};
+// Shifts of bit-vectors of width k. No bit is left after k places or more. Both go as far as `places`; only to the left
+// do bits roll over.
+ghost use Rattle.std.specs.Prelude.{◌≡◌, min};
 ghost use Rattle.source.specs.Numbers.{shifted_right, shifted_left};
 
-// Whether a shift by so many places leaves bits of the width where they can be seen.
-fn leaves_bits(k: u32, places: u64) -> bool
-    ensures { result ≡ nat_lt places k }
-{
-    places < k as u64
-}
+use crate::bit_vector::BitVector;
+use crate::pair::Pair;
 
-pub(crate) fn shift_right(k: u32, a: u64, b: u64) -> u64
-    requires { (k ≤ 32) × (a < 2 ^ k) }
-    ensures { result ≡ shifted_right a b }
-{
-    if leaves_bits(k, b) { a >> b } else { 0 }
-}
+impl Pair {
+    // The places that a shift goes: after k places, more make no difference.
+    fn places(self) -> u64
+        ensures { result ≡ min self.right self.width.bits }
+    {
+        self.right.min(u64::from(self.width.bits()))
+    }
 
-pub(crate) fn shift_left(k: u32, a: u64, b: u64) -> u64
-    requires { (k ≤ 32) × (a < 2 ^ k) }
-    ensures { result ≡ shifted_left k a b }
-{
-    if leaves_bits(k, b) {
-        (a << b) % (1u64 << k)
-    } else {
-        0
+    #[tactic(auto, using(crate::proofs::Shifting::right_capped))]
+    pub(crate) fn shift_right(self) -> BitVector
+        ensures width { result.width ≡ self.width }
+        ensures number { result.number ≡ shifted_right self.left self.right }
+    {
+        BitVector::of(self.width, self.left >> self.places())
+    }
+
+    #[tactic(auto, using(crate::proofs::Shifting::left_in_64))]
+    pub(crate) fn shift_left(self) -> BitVector
+        ensures width { result.width ≡ self.width }
+        ensures number { result.number ≡ shifted_left self.width.bits self.left self.right }
+    {
+        BitVector::rolled(self.width, self.left << self.places())
     }
 }

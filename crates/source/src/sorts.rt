@@ -8,19 +8,13 @@ impl Sort {
     pub fn is_bool(self) -> bool
         ensures { result ≡ is_bool self }
     {
-        match self {
-            Sort::Bool => true,
-            Sort::Bits(_) => false,
-        }
+        matches!(self, Sort::Bool)
     }
 
     pub fn is_bits(self) -> bool
         ensures { result ≡ is_bits self }
     {
-        match self {
-            Sort::Bool => false,
-            Sort::Bits(_) => true,
-        }
+        matches!(self, Sort::Bits(_))
     }
 
     // The width of bits; a truth value counts as one bit wide.
@@ -33,15 +27,10 @@ impl Sort {
         }
     }
 
-    // Whether the two are one sort.
+    // Whether the two are one sort. A name for `==`, since what operators take is stated by it.
     pub fn alike(self, other: Sort) -> bool
         ensures { result ≡ alike self other }
     {
-        match (self, other) {
-            (Sort::Bool, Sort::Bool) => true,
-            (Sort::Bits(k), Sort::Bits(j)) => k == j,
-            (Sort::Bool, Sort::Bits(_)) => false,
-            (Sort::Bits(_), Sort::Bool) => false,
-        }
+        self == other
     }
 }

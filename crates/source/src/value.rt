@@ -1,7 +1,10 @@
 // The values of source rows.
 ghost use Rattle.std.specs.Prelude.{◌≡◌};
 ghost use Rattle.source.specs.Values.{sort_of, is_value, number_of, truth_of, bits_of};
+ghost use Rattle.source.specs.Operands.{Number};
+ghost use Rattle.source.specs.declared.value.Value.TheVariants.{Bits};
 
+use crate::bit_vector::BitVector;
 use crate::order::Sort;
 
 // A truth value, or a number with its width. Numbers of a width k lie below 2^k; what an operator gives for
@@ -28,7 +31,7 @@ impl Value {
     {
         match self {
             Value::Bool(_) => true,
-            Value::Bits(k, n) => k >= 1 && k <= 32 && n < 1u64 << k,
+            Value::Bits(k, n) => BitVector::new(k, n).is_some(),
         }
     }
 
@@ -37,8 +40,7 @@ impl Value {
         ensures { result ≡ number_of self }
     {
         match self {
-            Value::Bool(true) => 1,
-            Value::Bool(false) => 0,
+            Value::Bool(b) => u64::from(b),
             Value::Bits(_, n) => n,
         }
     }
@@ -47,10 +49,7 @@ impl Value {
     pub fn truth(self) -> bool
         ensures { result ≡ truth_of self }
     {
-        match self {
-            Value::Bool(b) => b,
-            Value::Bits(_, _) => false,
-        }
+        matches!(self, Value::Bool(true))
     }
 
     // The width; a truth value counts as one bit wide.
@@ -61,5 +60,22 @@ impl Value {
             Value::Bool(_) => 1,
             Value::Bits(k, _) => k,
         }
+    }
+
+    // The bit-vector that it is; a truth value is one of one bit.
+    pub(crate) fn bit_vector(self) -> BitVector
+        requires { Number self }
+        ensures width { result.width.bits ≡ bits_of self }
+        ensures number { result.number ≡ number_of self }
+    {
+        BitVector::new(self.bits(), self.number()).unwrap()
+    }
+}
+
+impl From<BitVector> for Value {
+    ghost from_gives = { λ v r. r ≡ Bits v.width.bits v.number };
+
+    fn from(v: BitVector) -> Value {
+        Value::Bits(v.width.bits(), v.number)
     }
 }

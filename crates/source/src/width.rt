@@ -9,7 +9,7 @@ pub struct Width {
 }
 
 impl Width {
-    // A width of so many bits, if they are from 1 to 32.
+    // A width of so many bits, if they are from 1 to 32. There is one reason for none, so no error type names it.
     pub fn new(bits: u32) -> Option<Width>
         ensures { MatchOption result (is_width bits ≡ false) (λ w. (is_width bits ≡ true) × (w.bits ≡ bits)) }
     {

@@ -95,7 +95,7 @@ sound_join front new at e sound each i lt =
     (λ (low : i < at).
     let same : (p : ℕ) → p < i → sort_at front p ≡ s p = λ p l. ap sort_of (sym (get_or_append_left front new Unknown p (omega arith))) in
     let there : get_or (front ++ new) i Unknown ≡ get_or front i Unknown = get_or_append_left front new Unknown i (omega arith) in
-    subst (RowSound s i) (sym there) (sorts_local (sort_at front) s i (get_or front i Unknown) same (sound i (omega arith))))
+    subst (RowSound s i) (sym there) (sorts_local (sort_at front) s i same (get_or front i Unknown) (sound i (omega arith))))
     (λ (high : at ≤ i).
     let p : place at (i - at) ≡ i = omega (arith, place_is at (i - at)) in
     let there : get_or (front ++ new) i Unknown ≡ get_or new (i - at) Unknown = get_or-append_right front new at i Unknown e high in

@@ -1,19 +1,8 @@
 -- A part of a table that is written over.
-use Rattle.std.proofs.Common.{◌≡◌, ℕ, ◌+◌, ◌-◌, ◌≤◌, List, [], ◌++◌, length, take, drop, sym, ap, ◌∙◌, append_assoc, add-zero, arith, length-append, length-drop}
-use borrow.Rule.Slice.PartMut.{put_mid}
+use Rattle.std.proofs.Common.{◌≡◌, ℕ, ◌+◌, ◌≤◌, List, [], ◌++◌, length, take, drop, sym, ap, ◌∙◌, append_assoc, add-zero, arith, length-append, length-drop}
 use Rattle.std.proofs.lemmas.List.{drop-drop, take_at, drop_at, take-append-drop, length-take-le}
-use Rattle.std.proofs.lemmas.Bool.{cond-true, le-leb}
 use Rattle.target.specs.declared.row.Row.{Row}
-use Rattle.target.specs.Tables.{laid, laid_if_room}
-
--- `new` copied over the part from `at` on
-pub laid_part : (rows : List Row) (at n : ℕ) (new part : List Row) → n ≡ at + length new - at → at + length new ≤ length rows → part ≡ new → put_mid at n rows part ≡ laid_if_room rows at new
-laid_part rows at n new part e room is =
-    let k : n ≡ length new = omega arith in
-    ap (λ (m : ℕ). take at rows ++ (part ++ drop m (drop at rows))) k
-    ∙ ap (λ (t : List Row). take at rows ++ (t ++ drop (length new) (drop at rows))) is
-    ∙ ap (λ (t : List Row). take at rows ++ (new ++ t)) (drop-drop (length new) at rows)
-    ∙ sym (cond-true _ (laid rows at new) rows (le-leb (at + length new) (length rows) room))
+use Rattle.target.specs.Tables.{laid}
 
 pub laid_none : (rows : List Row) (at : ℕ) → laid rows at [] ≡ rows
 laid_none rows at = rw add-zero (take-append-drop at rows)

@@ -3,32 +3,37 @@ use Rattle.std.proofs.Common.{◌≡◌, ℕ, zero, suc, ◌<◌, min, List, len
 use Rattle.std.proofs.lemmas.List.{get_or-take}
 use Rattle.std.proofs.lemmas.Bool.{cond_both}
 use Rattle.target.specs.declared.row.Sort.{Sort}
+use Rattle.target.specs.declared.row.Sort.TheVariants.{Int, Bool}
 use Rattle.target.specs.declared.row.Row.{Row}
 use Rattle.target.specs.declared.row.Row.TheVariants.{Unknown, Number, Truth, Add, Sub, Times, Quot, Rem, Equal, Less, AtMost, Not, And, Or, Choose}
 use Rattle.target.specs.Sorts.{sort_of}
 use Rattle.target.specs.Values.{Val, Reading, kind, value_at}
 use Rattle.target.specs.Meaning.{row_value, unknowns, values}
-use Rattle.target.specs.Soundness.{RowSound, sort_at, Sound}
+use Rattle.target.specs.Soundness.{Takes, RowSound, sort_at, Sound}
 use Rattle.target.proofs.RowLaw.{row_law}
 
--- a row is sound by the sorts of the earlier rows alone
-pub sorts_local : (s t : ℕ → Sort) (i : ℕ) (row : Row) → ((p : ℕ) → p < i → s p ≡ t p) → RowSound s i row → RowSound t i row
-sorts_local s t i Unknown e h = tt
-sorts_local s t i (Number m) e h = tt
-sorts_local s t i (Truth b) e h = tt
-sorts_local s t i (Add p q) e h = ((h.0.0, sym (e p h.0.0) ∙ h.0.1), (h.1.0, sym (e q h.1.0) ∙ h.1.1))
-sorts_local s t i (Sub p q) e h = ((h.0.0, sym (e p h.0.0) ∙ h.0.1), (h.1.0, sym (e q h.1.0) ∙ h.1.1))
-sorts_local s t i (Times p q) e h = ((h.0.0, sym (e p h.0.0) ∙ h.0.1), (h.1.0, sym (e q h.1.0) ∙ h.1.1))
-sorts_local s t i (Quot p q) e h = ((h.0.0, sym (e p h.0.0) ∙ h.0.1), (h.1.0, sym (e q h.1.0) ∙ h.1.1))
-sorts_local s t i (Rem p q) e h = ((h.0.0, sym (e p h.0.0) ∙ h.0.1), (h.1.0, sym (e q h.1.0) ∙ h.1.1))
-sorts_local s t i (Equal p q) e h = (h.0, (h.1.0, sym (e q h.1.0) ∙ h.1.1 ∙ e p h.0))
-sorts_local s t i (Less p q) e h = ((h.0.0, sym (e p h.0.0) ∙ h.0.1), (h.1.0, sym (e q h.1.0) ∙ h.1.1))
-sorts_local s t i (AtMost p q) e h = ((h.0.0, sym (e p h.0.0) ∙ h.0.1), (h.1.0, sym (e q h.1.0) ∙ h.1.1))
-sorts_local s t i (Not p) e h = (h.0, sym (e p h.0) ∙ h.1)
-sorts_local s t i (And p q) e h = ((h.0.0, sym (e p h.0.0) ∙ h.0.1), (h.1.0, sym (e q h.1.0) ∙ h.1.1))
-sorts_local s t i (Or p q) e h = ((h.0.0, sym (e p h.0.0) ∙ h.0.1), (h.1.0, sym (e q h.1.0) ∙ h.1.1))
-sorts_local s t i (Choose sort p q r) e h =
-    ((h.0.0, sym (e p h.0.0) ∙ h.0.1), (h.1.0, sym (e q h.1.0) ∙ h.1.1), (h.2.0, sym (e r h.2.0) ∙ h.2.1))
+module _ (s t : ℕ → Sort) (i : ℕ) (e : (p : ℕ) → p < i → s p ≡ t p) where
+  -- an earlier row of a sort, by other sorts that agree before i
+  moved : (sort : Sort) (p : ℕ) → Takes s i sort p → Takes t i sort p
+  moved sort p h = (h.0, sym (e p h.0) ∙ h.1)
+
+  -- a row is sound by the sorts of the earlier rows alone
+  pub sorts_local : (row : Row) → RowSound s i row → RowSound t i row
+  sorts_local Unknown h = tt
+  sorts_local (Number m) h = tt
+  sorts_local (Truth b) h = tt
+  sorts_local (Add p q) h = (moved Int p h.0, moved Int q h.1)
+  sorts_local (Sub p q) h = (moved Int p h.0, moved Int q h.1)
+  sorts_local (Times p q) h = (moved Int p h.0, moved Int q h.1)
+  sorts_local (Quot p q) h = (moved Int p h.0, moved Int q h.1)
+  sorts_local (Rem p q) h = (moved Int p h.0, moved Int q h.1)
+  sorts_local (Equal p q) h = (h.0, (h.1.0, sym (e q h.1.0) ∙ h.1.1 ∙ e p h.0))
+  sorts_local (Less p q) h = (moved Int p h.0, moved Int q h.1)
+  sorts_local (AtMost p q) h = (moved Int p h.0, moved Int q h.1)
+  sorts_local (Not p) h = moved Bool p h
+  sorts_local (And p q) h = (moved Bool p h.0, moved Bool q h.1)
+  sorts_local (Or p q) h = (moved Bool p h.0, moved Bool q h.1)
+  sorts_local (Choose sort p q r) h = (moved Bool p h.0, moved sort q h.1, moved sort r h.2)
 
 -- the first rows of a sound table are a sound table
 pub prefix_sound : (n : ℕ) (rows : List Row) → Sound rows → Sound (take n rows)
@@ -36,7 +41,7 @@ prefix_sound n rows h i lt =
     let len : length (take n rows) ≡ min n (length rows) = length-take n rows in
     let low : i < n = omega arith in
     let same : (p : ℕ) → p < i → sort_at rows p ≡ sort_at (take n rows) p = λ p l. ap sort_of (sym (get_or-take n rows p Unknown (omega arith))) in
-    rw (get_or-take n rows i Unknown low) (sorts_local (sort_at rows) (sort_at (take n rows)) i (get_or rows i Unknown) same (h i (omega arith)))
+    rw (get_or-take n rows i Unknown low) (sorts_local (sort_at rows) (sort_at (take n rows)) i same (get_or rows i Unknown) (h i (omega arith)))
 
 -- a row whose branches have the values of its sort has a value of its sort
 kind_row : (reading : Reading) (numbers : ℕ → ℤ) (vs : List Val) (n : ℕ) (s : ℕ → Sort) (i : ℕ) (row : Row) → RowSound s i row →

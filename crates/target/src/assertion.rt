@@ -21,11 +21,11 @@ pub struct Assertion {
     pub kind: Kind,
 }
 
-impl Kind {
-    pub fn number(self) -> u8
-        ensures { result ≡ kind_number self }
-    {
-        match self {
+impl From<Kind> for u8 {
+    ghost from_gives = { λ kind n. n ≡ kind_number kind };
+
+    fn from(kind: Kind) -> u8 {
+        match kind {
             Kind::Range => 1,
             Kind::Lemma => 2,
             Kind::Requirement => 3,

@@ -1,12 +1,13 @@
 -- A row from its line.
 use Rattle.std.proofs.Common.{◌≡◌, ℕ, Bool, true, false, cond, eqb, List, [], ◌∷◌, ◌++◌, get_or, drop, codes, refl, ap, ◌∙◌, append_assoc}
+use Rattle.std.specs.Cmp.Lexicographic.{pointwise}
 use Rattle.target.specs.declared.row.Row.{Row}
 use Rattle.target.specs.declared.row.Row.TheVariants.{Unknown, Number, Truth, Add, Sub, Times, Quot, Rem, Equal, Less, AtMost, Not, And, Or, Choose}
 use Rattle.target.specs.declared.row.Sort as sort
 use Rattle.target.specs.declared.row.Sort.{Sort}
 use Rattle.target.specs.Sorts.{sort_of}
 use Rattle.text.specs.Numeral.{numeral}
-use Rattle.text.specs.Lines.{unknown, body_of, declared_line, defined_line, line_for, assert_line, sort_text}
+use Rattle.text.specs.Lines.{truth_text, operands_text, call_text, body_of, defined_line, line_for, assert_line, sort_text}
 use Rattle.text.proofs.Scan.{marks, numbers, ends, marks_numeral, ends_numeral, numbers_space, numbers_paren}
 
 pub data Item : Type 0 where
@@ -15,10 +16,7 @@ pub data Item : Type 0 where
   other : Item
 
 abbrev same : List ℕ → List ℕ → Bool
-same [] [] = true
-same [] (y ∷ ys) = false
-same (x ∷ xs) [] = false
-same (x ∷ xs) (y ∷ ys) = cond (eqb x y) (same xs ys) false
+same = pointwise eqb
 
 -- what stands after the sort
 abbrev tail : List ℕ → List ℕ
@@ -52,95 +50,46 @@ build m w ns =
 unfoldable pub decode : List ℕ → Item
 decode line = build (marks line) (tail (marks line)) (numbers false 0 line)
 
--- the marks and numbers of a body
-abbrev body_marks : Row → List ℕ
-body_marks Unknown = []
-body_marks (Number n) = []
-body_marks (Truth true) = codes "true"
-body_marks (Truth false) = codes "false"
-body_marks (Add a b) = codes "(+ t t)"
-body_marks (Sub a b) = codes "(- t t)"
-body_marks (Times a b) = codes "(* t t)"
-body_marks (Quot a b) = codes "(div t t)"
-body_marks (Rem a b) = codes "(mod t t)"
-body_marks (Equal a b) = codes "(= t t)"
-body_marks (Less a b) = codes "(< t t)"
-body_marks (AtMost a b) = codes "(<= t t)"
-body_marks (And a b) = codes "(and t t)"
-body_marks (Or a b) = codes "(or t t)"
-body_marks (Not a) = codes "(not t)"
-body_marks (Choose s a b c) = codes "(ite t t t)"
+-- operands without their numbers
+abbrev slots : List ℕ → List ℕ
+slots [] = codes ")"
+slots (r ∷ rs) = codes " t" ++ slots rs
 
-abbrev operands : Row → List ℕ
-operands Unknown = []
-operands (Number n) = n ∷ []
-operands (Truth b) = []
-operands (Add a b) = a ∷ b ∷ []
-operands (Sub a b) = a ∷ b ∷ []
-operands (Times a b) = a ∷ b ∷ []
-operands (Quot a b) = a ∷ b ∷ []
-operands (Rem a b) = a ∷ b ∷ []
-operands (Equal a b) = a ∷ b ∷ []
-operands (Less a b) = a ∷ b ∷ []
-operands (AtMost a b) = a ∷ b ∷ []
-operands (And a b) = a ∷ b ∷ []
-operands (Or a b) = a ∷ b ∷ []
-operands (Not a) = a ∷ []
-operands (Choose s a b c) = a ∷ b ∷ c ∷ []
+marks_operands : (rows rest : List ℕ) → marks (operands_text rows ++ rest) ≡ slots rows ++ marks rest
+marks_operands [] rest = refl
+marks_operands (r ∷ rs) rest = simp (append_assoc, marks_numeral, marks_operands rs rest)
 
-marks_body : (r : Row) (rest : List ℕ) → marks (body_of r ++ rest) ≡ body_marks r ++ marks rest
-marks_body Unknown rest = refl
-marks_body (Number n) rest = simp marks_numeral
-marks_body (Truth true) rest = refl
-marks_body (Truth false) rest = refl
-marks_body (Add a b) rest = simp (append_assoc, marks_numeral)
-marks_body (Sub a b) rest = simp (append_assoc, marks_numeral)
-marks_body (Times a b) rest = simp (append_assoc, marks_numeral)
-marks_body (Quot a b) rest = simp (append_assoc, marks_numeral)
-marks_body (Rem a b) rest = simp (append_assoc, marks_numeral)
-marks_body (Equal a b) rest = simp (append_assoc, marks_numeral)
-marks_body (Less a b) rest = simp (append_assoc, marks_numeral)
-marks_body (AtMost a b) rest = simp (append_assoc, marks_numeral)
-marks_body (And a b) rest = simp (append_assoc, marks_numeral)
-marks_body (Or a b) rest = simp (append_assoc, marks_numeral)
-marks_body (Not a) rest = simp (append_assoc, marks_numeral)
-marks_body (Choose s a b c) rest = simp (append_assoc, marks_numeral)
+ends_operands : (rows rest : List ℕ) → ends (operands_text rows ++ rest) ≡ ends rest
+ends_operands [] rest = refl
+ends_operands (r ∷ rs) rest = simp (append_assoc, ends_numeral, ends_operands rs rest)
 
-ends_body : (r : Row) (rest : List ℕ) → ends (body_of r ++ rest) ≡ ends rest
-ends_body Unknown rest = refl
-ends_body (Number n) rest = simp ends_numeral
-ends_body (Truth true) rest = refl
-ends_body (Truth false) rest = refl
-ends_body (Add a b) rest = simp (append_assoc, ends_numeral)
-ends_body (Sub a b) rest = simp (append_assoc, ends_numeral)
-ends_body (Times a b) rest = simp (append_assoc, ends_numeral)
-ends_body (Quot a b) rest = simp (append_assoc, ends_numeral)
-ends_body (Rem a b) rest = simp (append_assoc, ends_numeral)
-ends_body (Equal a b) rest = simp (append_assoc, ends_numeral)
-ends_body (Less a b) rest = simp (append_assoc, ends_numeral)
-ends_body (AtMost a b) rest = simp (append_assoc, ends_numeral)
-ends_body (And a b) rest = simp (append_assoc, ends_numeral)
-ends_body (Or a b) rest = simp (append_assoc, ends_numeral)
-ends_body (Not a) rest = simp (append_assoc, ends_numeral)
-ends_body (Choose s a b c) rest = simp (append_assoc, ends_numeral)
+numbers_operands : (rows rest : List ℕ) → numbers false 0 (operands_text rows ++ rest) ≡ rows ++ numbers false 0 rest
+numbers_operands [] rest = refl
+numbers_operands (r ∷ []) rest = simp (append_assoc, numbers_paren)
+numbers_operands (r ∷ next ∷ rs) rest =
+    ap (numbers false 0) (append_assoc (numeral r) (operands_text (next ∷ rs)) rest) ∙ numbers_space r _ ∙ ap (λ (t : List ℕ). r ∷ t) (numbers_operands (next ∷ rs) rest)
 
-numbers_body : (r : Row) (rest : List ℕ) → numbers false 0 (body_of r ++ (41 ∷ rest)) ≡ operands r ++ numbers false 0 rest
-numbers_body Unknown rest = refl
-numbers_body (Number n) rest = simp numbers_paren
-numbers_body (Truth true) rest = refl
-numbers_body (Truth false) rest = refl
-numbers_body (Add a b) rest = simp (append_assoc, numbers_space, numbers_paren)
-numbers_body (Sub a b) rest = simp (append_assoc, numbers_space, numbers_paren)
-numbers_body (Times a b) rest = simp (append_assoc, numbers_space, numbers_paren)
-numbers_body (Quot a b) rest = simp (append_assoc, numbers_space, numbers_paren)
-numbers_body (Rem a b) rest = simp (append_assoc, numbers_space, numbers_paren)
-numbers_body (Equal a b) rest = simp (append_assoc, numbers_space, numbers_paren)
-numbers_body (Less a b) rest = simp (append_assoc, numbers_space, numbers_paren)
-numbers_body (AtMost a b) rest = simp (append_assoc, numbers_space, numbers_paren)
-numbers_body (And a b) rest = simp (append_assoc, numbers_space, numbers_paren)
-numbers_body (Or a b) rest = simp (append_assoc, numbers_space, numbers_paren)
-numbers_body (Not a) rest = simp (append_assoc, numbers_paren)
-numbers_body (Choose s a b c) rest = simp (append_assoc, numbers_space, numbers_paren)
+-- what is read in a body: what is no digit, and its numbers; it breaks no line
+record Reads (body bare found : List ℕ) : Type 0 where
+  marked : (rest : List ℕ) → marks (body ++ rest) ≡ bare ++ marks rest
+  numbered : (rest : List ℕ) → numbers false 0 (body ++ (41 ∷ rest)) ≡ found ++ numbers false 0 rest
+  unbroken : (rest : List ℕ) → ends (body ++ rest) ≡ ends rest
+
+number : (n : ℕ) → Reads (numeral n) [] (n ∷ [])
+number n = record { marked = marks_numeral n; numbered = numbers_paren n; unbroken = ends_numeral n }
+
+truth : (b : Bool) → Reads (truth_text b) (truth_text b) []
+truth true = record { marked = λ _. refl; numbered = λ _. refl; unbroken = λ _. refl }
+truth false = record { marked = λ _. refl; numbered = λ _. refl; unbroken = λ _. refl }
+
+-- an operation: its word has no digit and breaks no line
+call : (op rows : List ℕ) → ((rest : List ℕ) → marks (op ++ rest) ≡ op ++ marks rest) → ((rest : List ℕ) → numbers false 0 (op ++ rest) ≡ numbers false 0 rest)
+    → ((rest : List ℕ) → ends (op ++ rest) ≡ ends rest) → Reads (call_text op rows) (codes "(" ++ (op ++ slots rows)) rows
+call op rows m n e = record {
+  marked = λ rest. simp (append_assoc, m, marks_operands);
+  numbered = λ rest. simp (append_assoc, n, numbers_operands);
+  unbroken = λ rest. simp (append_assoc, e, ends_operands);
+}
 
 marks_sort : (s : Sort) (rest : List ℕ) → marks (sort_text s ++ rest) ≡ sort_text s ++ marks rest
 marks_sort sort.TheVariants.Int rest = refl
@@ -154,51 +103,49 @@ numbers_sort : (i : ℕ) (s : Sort) (rest : List ℕ) → numbers false 0 (numer
 numbers_sort i sort.TheVariants.Int rest = numbers_space i _
 numbers_sort i sort.TheVariants.Bool rest = numbers_space i _
 
-abbrev defined_marks : Row → List ℕ
-defined_marks r = codes "(define-fun t" ++ (sort_text (sort_of r) ++ (body_marks r ++ codes ")\n"))
+-- a row's line gives the row back, and has one line break, at its end
+pub record Read (i : ℕ) (r : Row) : Type 0 where
+  pub back : decode (line_for i r) ≡ row r
+  pub ended : ends (line_for i r) ≡ true
 
-defined_marks_lem : (i : ℕ) (r : Row) → marks (defined_line i r) ≡ defined_marks r
-defined_marks_lem i r = simp (marks_numeral, marks_sort, marks_body)
+abbrev defined_marks : Sort → List ℕ → List ℕ
+defined_marks s bare = codes "(define-fun t" ++ (sort_text s ++ (bare ++ codes ")\n"))
 
-defined_numbers : (i : ℕ) (r : Row) → numbers false 0 (defined_line i r) ≡ i ∷ (operands r ++ [])
-defined_numbers i r = simp (numbers_sort, numbers_body)
-
-decode_by : (i : ℕ) (r : Row) → build (defined_marks r) (tail (defined_marks r)) (i ∷ (operands r ++ [])) ≡ row r → decode (defined_line i r) ≡ row r
+defined : (i : ℕ) (r : Row) {bare found : List ℕ} → Reads (body_of r) bare found → line_for i r ≡ defined_line i r
+    → build (defined_marks (sort_of r) bare) (tail (defined_marks (sort_of r) bare)) (i ∷ (found ++ [])) ≡ row r → Read i r
 unfolding decode
-decode_by i r e =
-    ap (λ (m : List ℕ). build m (tail m) (numbers false 0 (defined_line i r))) (defined_marks_lem i r)
-    ∙ ap (build (defined_marks r) (tail (defined_marks r))) (defined_numbers i r) ∙ e
+defined i r {bare} {found} reads is e =
+    let m : marks (defined_line i r) ≡ defined_marks (sort_of r) bare = simp (marks_numeral, marks_sort, reads.marked) in
+    let n : numbers false 0 (defined_line i r) ≡ i ∷ (found ++ []) = simp (numbers_sort, reads.numbered) in
+    record {
+      back = ap decode is ∙ ap (λ (t : List ℕ). build t (tail t) (numbers false 0 (defined_line i r))) m
+          ∙ ap (build (defined_marks (sort_of r) bare) (tail (defined_marks (sort_of r) bare))) n ∙ e;
+      ended = ap ends is ∙ simp (ends_numeral, ends_sort, reads.unbroken);
+    }
 
-pub decode_row : (i : ℕ) (r : Row) → decode (line_for i r) ≡ row r
+pub read : (i : ℕ) (r : Row) → Read i r
 unfolding decode
-decode_row i Unknown = simp (marks_numeral, numbers_space)
-decode_row i (Number n) = decode_by i (Number n) refl
-decode_row i (Truth true) = decode_by i (Truth true) refl
-decode_row i (Truth false) = decode_by i (Truth false) refl
-decode_row i (Add a b) = decode_by i (Add a b) refl
-decode_row i (Sub a b) = decode_by i (Sub a b) refl
-decode_row i (Times a b) = decode_by i (Times a b) refl
-decode_row i (Quot a b) = decode_by i (Quot a b) refl
-decode_row i (Rem a b) = decode_by i (Rem a b) refl
-decode_row i (Equal a b) = decode_by i (Equal a b) refl
-decode_row i (Less a b) = decode_by i (Less a b) refl
-decode_row i (AtMost a b) = decode_by i (AtMost a b) refl
-decode_row i (And a b) = decode_by i (And a b) refl
-decode_row i (Or a b) = decode_by i (Or a b) refl
-decode_row i (Not a) = decode_by i (Not a) refl
-decode_row i (Choose sort.TheVariants.Int a b c) = decode_by i (Choose sort.TheVariants.Int a b c) refl
-decode_row i (Choose sort.TheVariants.Bool a b c) = decode_by i (Choose sort.TheVariants.Bool a b c) refl
+read i Unknown = record { back = simp (marks_numeral, numbers_space); ended = simp ends_numeral }
+read i (Number n) = defined i (Number n) (number n) refl refl
+read i (Truth true) = defined i (Truth true) (truth true) refl refl
+read i (Truth false) = defined i (Truth false) (truth false) refl refl
+read i (Add a b) = defined i (Add a b) (call (codes "+") (a ∷ b ∷ []) (λ _. refl) (λ _. refl) (λ _. refl)) refl refl
+read i (Sub a b) = defined i (Sub a b) (call (codes "-") (a ∷ b ∷ []) (λ _. refl) (λ _. refl) (λ _. refl)) refl refl
+read i (Times a b) = defined i (Times a b) (call (codes "*") (a ∷ b ∷ []) (λ _. refl) (λ _. refl) (λ _. refl)) refl refl
+read i (Quot a b) = defined i (Quot a b) (call (codes "div") (a ∷ b ∷ []) (λ _. refl) (λ _. refl) (λ _. refl)) refl refl
+read i (Rem a b) = defined i (Rem a b) (call (codes "mod") (a ∷ b ∷ []) (λ _. refl) (λ _. refl) (λ _. refl)) refl refl
+read i (Equal a b) = defined i (Equal a b) (call (codes "=") (a ∷ b ∷ []) (λ _. refl) (λ _. refl) (λ _. refl)) refl refl
+read i (Less a b) = defined i (Less a b) (call (codes "<") (a ∷ b ∷ []) (λ _. refl) (λ _. refl) (λ _. refl)) refl refl
+read i (AtMost a b) = defined i (AtMost a b) (call (codes "<=") (a ∷ b ∷ []) (λ _. refl) (λ _. refl) (λ _. refl)) refl refl
+read i (And a b) = defined i (And a b) (call (codes "and") (a ∷ b ∷ []) (λ _. refl) (λ _. refl) (λ _. refl)) refl refl
+read i (Or a b) = defined i (Or a b) (call (codes "or") (a ∷ b ∷ []) (λ _. refl) (λ _. refl) (λ _. refl)) refl refl
+read i (Not a) = defined i (Not a) (call (codes "not") (a ∷ []) (λ _. refl) (λ _. refl) (λ _. refl)) refl refl
+read i (Choose sort.TheVariants.Int a b c) = defined i (Choose sort.TheVariants.Int a b c) (call (codes "ite") (a ∷ b ∷ c ∷ []) (λ _. refl) (λ _. refl) (λ _. refl)) refl refl
+read i (Choose sort.TheVariants.Bool a b c) = defined i (Choose sort.TheVariants.Bool a b c) (call (codes "ite") (a ∷ b ∷ c ∷ []) (λ _. refl) (λ _. refl) (λ _. refl)) refl refl
 
 pub decode_assert : (r : ℕ) → decode (assert_line r) ≡ asserted r
 unfolding decode
 decode_assert r = simp (marks_numeral, numbers_paren)
-
-ends_either : (b : Bool) (i : ℕ) (r : Row) → ends (cond b (declared_line i) (defined_line i r)) ≡ true
-ends_either true i r = simp ends_numeral
-ends_either false i r = simp (ends_numeral, ends_sort, ends_body)
-
-pub ends_row : (i : ℕ) (r : Row) → ends (line_for i r) ≡ true
-ends_row i r = ends_either (unknown r) i r
 
 pub ends_assert : (r : ℕ) → ends (assert_line r) ≡ true
 ends_assert r = simp ends_numeral

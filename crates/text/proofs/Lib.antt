@@ -1,8 +1,10 @@
 mod Numerals
+mod Kept
+mod Pieces
 mod Places
 mod Wholes
-mod Tables
 mod Rooms
+mod Tables
 mod Scan
 mod Decode
 mod Reading

@@ -1,16 +1,19 @@
 -- Which line is which.
-use Rattle.std.proofs.Common.{◌≡◌, ℕ, suc, ◌+◌, ◌-◌, ◌<◌, ◌≤◌, List, [], ◌∷◌, ◌++◌, map, length, get_or, refl, ap, ◌∙◌, zero-add, arith}
+use Rattle.std.proofs.Common.{◌≡◌, ℕ, suc, ◌+◌, ◌-◌, ◌<◌, ◌≤◌, List, [], ◌∷◌, ◌++◌, map, length, get_or, ap, ◌∙◌, zero-add, arith}
 use Rattle.std.proofs.lemmas.List.{get_or_append_left, get_or-append_right, get_or-map, length-map, length-append}
 use Rattle.std.proofs.lemmas.List.FromFn.{length-map-range_with_len, get_or-map-range_with_len}
+use Rattle.std.proofs.lemmas.Bool.Decides.{nat_tests}
+use Rattle.target.specs.declared.assertion.Assertion.{Assertion}
 use Rattle.target.specs.declared.row.Row.{Row}
-use Rattle.text.specs.Lines.{lines_of, line_of, line_count, row_line, row_lines, assert_line, logic_line, check_line}
+use Rattle.text.specs.Lines.{lines_of, named_by, line_of, line_count, row_line, row_lines, assert_line, logic_line, check_line}
+use Rattle.text.proofs.Kept.{kept_whole}
 
 rest : List Row → List ℕ → List (List ℕ)
 rest rows asserted = row_lines rows ++ (map assert_line asserted ++ (check_line ∷ []))
 
-pub line_logic : (rows : List Row) (asserted : List ℕ) → line_of rows asserted 0 ≡ logic_line
+pub line_logic : (rows : List Row) (asserted : List ℕ) (n : ℕ) → n ≡ 0 → line_of rows asserted n ≡ logic_line
 unfolding lines_of
-line_logic rows asserted = refl
+line_logic rows asserted n h = ap (line_of rows asserted) h
 
 pub line_row : (rows : List Row) (asserted : List ℕ) (n : ℕ) → 0 < n → n - 1 < length rows → line_of rows asserted n ≡ row_line rows (n - 1)
 unfolding lines_of
@@ -43,3 +46,12 @@ pub lines_count : (rows : List Row) (asserted : List ℕ) → length (lines_of r
 unfolding lines_of
 lines_count rows asserted =
     omega (arith, length-append (row_lines rows) (map assert_line asserted ++ (check_line ∷ [])), length-append (map assert_line asserted) (check_line ∷ []), length-map asserted assert_line, length-map-range_with_len (row_line rows) 0 (length rows))
+
+-- the row that assertion j names
+pub named_get : (assertions : List Assertion) (d : Assertion) (j : ℕ) → j < length assertions → get_or (named_by assertions) j 0 ≡ (get_or assertions j d).row
+named_get assertions d j h = get_or-map (λ (a : Assertion). a.row) assertions j d 0 h
+
+pub named_count : (assertions : List Assertion) → length (named_by assertions) ≡ length assertions
+named_count assertions = length-map assertions (λ (a : Assertion). a.row)
+
+pub ruleset places = (line_logic, line_row, line_assert, line_check, named_get, named_count, kept_whole, nat_tests)

@@ -1,15 +1,16 @@
 -- A target from its text.
 use Rattle.std.proofs.Common.{◌≡◌, ℕ, Bool, true, false, cond, eqb, List, [], ◌∷◌, ◌++◌, map, length, get_or, sym, refl, ap, ◌∙◌, append_assoc, append-nil}
-use Rattle.std.specs.List.{range_with_len}
+use Rattle.std.specs.List.{All, concat, range_with_len}
 use Rattle.std.proofs.lemmas.List.{map-append, length-map, get_or-map}
+use Rattle.std.proofs.lemmas.List.Elements.{All-nil, All-cons, All-head, All-tail, All-append}
 use Rattle.std.proofs.lemmas.List.FromFn.{fill_by_all}
 use Rattle.std.proofs.lemmas.Bool.{both_ways}
 use Rattle.target.specs.declared.row.Row.{Row}
 use Rattle.target.specs.declared.row.Row.TheVariants.{Unknown}
 use Rattle.text.specs.Lines.{lines_of, row_line, row_lines, assert_line, check_line}
-use Rattle.text.specs.Law.{concat, text_of, StatesNoOther}
+use Rattle.text.specs.Law.{text_of, StatesNoOther}
 use Rattle.text.proofs.Scan.{ends, none}
-use Rattle.text.proofs.Decode.{Item, row, asserted, other, decode, decode_row, decode_assert, ends_row, ends_assert}
+use Rattle.text.proofs.Decode.{Item, row, asserted, other, decode, read, decode_assert, ends_assert}
 
 -- the lines of a text
 abbrev cut : List ℕ → List ℕ → List (List ℕ)
@@ -30,29 +31,23 @@ cut_line : (acc l rest : List ℕ) → ends l ≡ true → cut acc (l ++ rest) �
 cut_line acc [] rest h = absurd (both_ways false refl h)
 cut_line acc (b ∷ bs) rest h = cut_case acc b bs rest (eqb b 10) h (cut_line (acc ++ (b ∷ [])) bs rest)
 
-abbrev Ended : List (List ℕ) → Type 0
-Ended [] = Unit {0}
-Ended (l ∷ ls) = (ends l ≡ true) × Ended ls
+abbrev Ends : List ℕ → Type 0
+Ends l = ends l ≡ true
 
-cut_all : (ls : List (List ℕ)) → Ended ls → cut [] (concat ls) ≡ ls
+cut_all : (ls : List (List ℕ)) → All Ends ls → cut [] (concat ls) ≡ ls
 cut_all [] u = refl
-cut_all (l ∷ ls) u = cut_line [] l (concat ls) u.0 ∙ ap (λ (t : List (List ℕ)). l ∷ t) (cut_all ls u.1)
+cut_all (l ∷ ls) u = cut_line [] l (concat ls) (All-head Ends l ls u) ∙ ap (λ (t : List (List ℕ)). l ∷ t) (cut_all ls (All-tail Ends l ls u))
 
-ended_append : (xs ys : List (List ℕ)) → Ended xs → Ended ys → Ended (xs ++ ys)
-ended_append [] ys u v = v
-ended_append (x ∷ xs) ys u v = (u.0, ended_append xs ys u.1 v)
+ended_map : (f : ℕ → List ℕ) → ((i : ℕ) → Ends (f i)) → (is : List ℕ) → All Ends (map f is)
+ended_map f h [] = All-nil Ends
+ended_map f h (i ∷ is) = All-cons Ends (f i) (map f is) (h i) (ended_map f h is)
 
-ended_map : (f : ℕ → List ℕ) → ((i : ℕ) → ends (f i) ≡ true) → (is : List ℕ) → Ended (map f is)
-ended_map f h [] = tt
-ended_map f h (i ∷ is) = (h i, ended_map f h is)
-
-ended : (rows : List Row) (rs : List ℕ) → Ended (lines_of rows rs)
+ended : (rows : List Row) (rs : List ℕ) → All Ends (lines_of rows rs)
 unfolding lines_of
-ended rows rs = (
-  refl,
-  ended_append (row_lines rows) (map assert_line rs ++ (check_line ∷ [])) (ended_map (row_line rows) (λ i. ends_row i (get_or rows i Unknown)) (range_with_len 0 (length rows)))
-      (ended_append (map assert_line rs) (check_line ∷ []) (ended_map assert_line ends_assert rs) (refl, tt)),
-)
+ended rows rs =
+    All-cons Ends _ _ refl
+    (All-append Ends (row_lines rows) _ (ended_map (row_line rows) (λ i. (read i (get_or rows i Unknown)).ended) _)
+    (All-append Ends (map assert_line rs) _ (ended_map assert_line ends_assert rs) (All-cons Ends check_line [] refl (All-nil Ends))))
 
 -- what the lines state
 abbrev rows_in : List Item → List Row
@@ -86,7 +81,7 @@ asserted_asserted (r ∷ rs) rest = ap (λ (t : List ℕ). r ∷ t) (asserted_as
 decode_rows : (rows : List Row) (is : List ℕ) → map decode (map (row_line rows) is) ≡ map (λ i. row (get_or rows i Unknown)) is
 decode_rows rows [] = refl
 decode_rows rows (i ∷ is) =
-    ap (λ (x : Item). x ∷ map decode (map (row_line rows) is)) (decode_row i (get_or rows i Unknown))
+    ap (λ (x : Item). x ∷ map decode (map (row_line rows) is)) (read i (get_or rows i Unknown)).back
     ∙ ap (λ (t : List Item). row (get_or rows i Unknown) ∷ t) (decode_rows rows is)
 
 decode_all : (rows : List Row) → map decode (row_lines rows) ≡ map row rows

@@ -1,8 +1,6 @@
 -- How long a line is.
-use Rattle.std.proofs.Common.{◌≡◌, ℕ, zero, suc, ◌+◌, ◌-◌, ◌<◌, ◌≤◌, Bool, true, false, cond, List, length, get_or, codes, ap, ◌∙◌, inl, inr, arith, lit≤}
-use Rattle.std.specs.Int.Digits.{digits_of}
-use Rattle.std.proofs.lemmas.Int.Digits.{length-digits_of-le}
-use Rattle.std.proofs.lemmas.List.{length-append, length-map}
+use Rattle.std.proofs.Common.{◌≡◌, ℕ, ◌-◌, ◌<◌, ◌≤◌, Bool, true, false, cond, List, [], ◌∷◌, length, get_or, codes, ap, inl, inr, arith, lit≤}
+use Rattle.std.proofs.lemmas.List.{length-append}
 use Rattle.std.proofs.lemmas.Bool.{cases_lt, cases_eq}
 use Rattle.target.specs.declared.row.Row.{Row}
 use Rattle.target.specs.declared.row.Row.TheVariants.{Unknown, Number, Truth, Add, Sub, Times, Quot, Rem, Equal, Less, AtMost, Not, And, Or, Choose}
@@ -10,19 +8,15 @@ use Rattle.target.specs.declared.row.Sort as sort
 use Rattle.target.specs.declared.row.Sort.{Sort}
 use Rattle.target.specs.Sorts.{sort_of}
 use Rattle.text.specs.Numeral.{numeral}
-use Rattle.text.specs.Lines.{line_of, line_for, unknown, body_of, defined_line, declared_line, assert_line, pair_text, sort_text}
+use Rattle.text.specs.Lines.{line_of, line_for, unknown, body_of, defined_line, declared_line, assert_line, call_text, sort_text}
 use Rattle.text.specs.Room.{Small, Room}
-use Rattle.text.proofs.Numerals.{numeral_some, numeral_short}
+use Rattle.text.proofs.Numerals.{numeral_within, numeral_short}
 use Rattle.text.proofs.Places.{line_logic, line_row, line_assert, line_check}
 
 five : (n : ℕ) → n < 32768 → length (numeral n) ≤ 5
-unfolding numeral
-five zero h = lit≤ tt
-five (suc n) h =
-    let e : length (numeral (suc n)) ≡ length (digits_of 10 (suc n)) = ap length (numeral_some (suc n) (omega arith)) ∙ length-map (digits_of 10 (suc n)) (λ d. 48 + d) in
-    omega (arith, e, length-digits_of-le 10 5 (suc n) (omega arith) (omega arith))
+five n h = numeral_within 5 n (omega arith) (omega arith) (omega arith)
 
-pair_long : (op : List ℕ) (a b : ℕ) → length op ≤ 6 → a < 32768 → b < 32768 → length (pair_text op a b) ≤ 26
+pair_long : (op : List ℕ) (a b : ℕ) → length op ≤ 3 → a < 32768 → b < 32768 → length (call_text op (a ∷ b ∷ [])) ≤ 26
 pair_long op a b o h k = simp length-append (omega (arith, five a h, five b k))
 
 body_long : (r : Row) → Small r → length (body_of r) ≤ 26
@@ -30,16 +24,16 @@ body_long Unknown h = lit≤ tt
 body_long (Number n) h = omega (arith, numeral_short n h)
 body_long (Truth true) h = lit≤ tt
 body_long (Truth false) h = lit≤ tt
-body_long (Add a b) h = pair_long (codes "(+ t") a b (lit≤ tt) h.0 h.1
-body_long (Sub a b) h = pair_long (codes "(- t") a b (lit≤ tt) h.0 h.1
-body_long (Times a b) h = pair_long (codes "(* t") a b (lit≤ tt) h.0 h.1
-body_long (Quot a b) h = pair_long (codes "(div t") a b (lit≤ tt) h.0 h.1
-body_long (Rem a b) h = pair_long (codes "(mod t") a b (lit≤ tt) h.0 h.1
-body_long (Equal a b) h = pair_long (codes "(= t") a b (lit≤ tt) h.0 h.1
-body_long (Less a b) h = pair_long (codes "(< t") a b (lit≤ tt) h.0 h.1
-body_long (AtMost a b) h = pair_long (codes "(<= t") a b (lit≤ tt) h.0 h.1
-body_long (And a b) h = pair_long (codes "(and t") a b (lit≤ tt) h.0 h.1
-body_long (Or a b) h = pair_long (codes "(or t") a b (lit≤ tt) h.0 h.1
+body_long (Add a b) h = pair_long (codes "+") a b (lit≤ tt) h.0 h.1
+body_long (Sub a b) h = pair_long (codes "-") a b (lit≤ tt) h.0 h.1
+body_long (Times a b) h = pair_long (codes "*") a b (lit≤ tt) h.0 h.1
+body_long (Quot a b) h = pair_long (codes "div") a b (lit≤ tt) h.0 h.1
+body_long (Rem a b) h = pair_long (codes "mod") a b (lit≤ tt) h.0 h.1
+body_long (Equal a b) h = pair_long (codes "=") a b (lit≤ tt) h.0 h.1
+body_long (Less a b) h = pair_long (codes "<") a b (lit≤ tt) h.0 h.1
+body_long (AtMost a b) h = pair_long (codes "<=") a b (lit≤ tt) h.0 h.1
+body_long (And a b) h = pair_long (codes "and") a b (lit≤ tt) h.0 h.1
+body_long (Or a b) h = pair_long (codes "or") a b (lit≤ tt) h.0 h.1
 body_long (Not a) h = simp length-append (omega (arith, five a h))
 body_long (Choose t a b c) h = simp length-append (omega (arith, five a h.0, five b h.1, five c h.2))
 
@@ -60,7 +54,7 @@ assert_long r h = simp length-append (omega (arith, five r h))
 pub room : Room
 room rows rs n h len limited =
     elim (cases_eq n 0) [
-      | inl e ↦ let g : length (line_of rows rs n) ≡ 19 = ap (λ (m : ℕ). length (line_of rows rs m)) e ∙ ap length (line_logic rows rs) in omega arith
+      | inl e ↦ let g : length (line_of rows rs n) ≡ 19 = ap length (line_logic rows rs n e) in omega arith
       | inr p ↦ elim (cases_lt (n - 1) (length rows)) [
         | inl q ↦ let g : length (line_of rows rs n) ≡ length (line_for (n - 1) (get_or rows (n - 1) Unknown)) = ap length (line_row rows rs n (omega arith) q) in
             omega (arith, line_long (n - 1) (get_or rows (n - 1) Unknown) (omega arith) (limited.0 (n - 1) q))

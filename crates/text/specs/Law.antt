@@ -1,12 +1,8 @@
 -- The text states a target's rows and no others.
-use Rattle.std.specs.Prelude.{◌≡◌, ℕ, List, [], ◌∷◌, ◌++◌}
+use Rattle.std.specs.Prelude.{◌≡◌, ℕ, List}
+use Rattle.std.specs.List.{concat}
 use Rattle.target.specs.declared.row.Row.{Row}
 use Rattle.text.specs.Lines.{lines_of}
-
--- lists one after another
-abbrev pub concat : List (List ℕ) → List ℕ
-concat [] = []
-concat (line ∷ lines) = line ++ concat lines
 
 -- the lines one after another
 abbrev pub text_of : List Row → List ℕ → List ℕ

@@ -1,4 +1,5 @@
 pub mod Numeral
+pub mod Kept
 pub mod Lines
 pub mod Law
 pub mod Outcome

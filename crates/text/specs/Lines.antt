@@ -9,15 +9,14 @@ use Rattle.target.specs.declared.row.Sort.{Sort}
 use Rattle.target.specs.Sorts.{sort_of}
 use Rattle.text.specs.Numeral.{numeral}
 
--- an operation on one, two or three rows: `op` ends with the t of the first row
-abbrev pub one_text : List ℕ → ℕ → List ℕ
-one_text op a = op ++ (numeral a ++ codes ")")
+-- operands, each a row by its index, up to the parenthesis behind them
+abbrev pub operands_text : List ℕ → List ℕ
+operands_text [] = codes ")"
+operands_text (row ∷ rows) = codes " t" ++ (numeral row ++ operands_text rows)
 
-abbrev pub pair_text : List ℕ → ℕ → ℕ → List ℕ
-pair_text op a b = op ++ (numeral a ++ (codes " t" ++ (numeral b ++ codes ")")))
-
-abbrev pub three_text : List ℕ → ℕ → ℕ → ℕ → List ℕ
-three_text op a b c = op ++ (numeral a ++ (codes " t" ++ (numeral b ++ (codes " t" ++ (numeral c ++ codes ")")))))
+-- an operation on rows, as (+ t3 t5)
+abbrev pub call_text : List ℕ → List ℕ → List ℕ
+call_text op operands = codes "(" ++ (op ++ operands_text operands)
 
 -- a truth value
 abbrev pub truth_text : Bool → List ℕ
@@ -29,18 +28,18 @@ abbrev pub body_of : Row → List ℕ
 body_of Unknown = []
 body_of (Number n) = numeral n
 body_of (Truth b) = truth_text b
-body_of (Add a b) = pair_text (codes "(+ t") a b
-body_of (Sub a b) = pair_text (codes "(- t") a b
-body_of (Times a b) = pair_text (codes "(* t") a b
-body_of (Quot a b) = pair_text (codes "(div t") a b
-body_of (Rem a b) = pair_text (codes "(mod t") a b
-body_of (Equal a b) = pair_text (codes "(= t") a b
-body_of (Less a b) = pair_text (codes "(< t") a b
-body_of (AtMost a b) = pair_text (codes "(<= t") a b
-body_of (Not a) = one_text (codes "(not t") a
-body_of (And a b) = pair_text (codes "(and t") a b
-body_of (Or a b) = pair_text (codes "(or t") a b
-body_of (Choose s c a b) = three_text (codes "(ite t") c a b
+body_of (Add a b) = call_text (codes "+") (a ∷ b ∷ [])
+body_of (Sub a b) = call_text (codes "-") (a ∷ b ∷ [])
+body_of (Times a b) = call_text (codes "*") (a ∷ b ∷ [])
+body_of (Quot a b) = call_text (codes "div") (a ∷ b ∷ [])
+body_of (Rem a b) = call_text (codes "mod") (a ∷ b ∷ [])
+body_of (Equal a b) = call_text (codes "=") (a ∷ b ∷ [])
+body_of (Less a b) = call_text (codes "<") (a ∷ b ∷ [])
+body_of (AtMost a b) = call_text (codes "<=") (a ∷ b ∷ [])
+body_of (Not a) = call_text (codes "not") (a ∷ [])
+body_of (And a b) = call_text (codes "and") (a ∷ b ∷ [])
+body_of (Or a b) = call_text (codes "or") (a ∷ b ∷ [])
+body_of (Choose s c a b) = call_text (codes "ite") (c ∷ a ∷ b ∷ [])
 
 -- whether a row is declared and not defined
 abbrev pub unknown : Row → Bool

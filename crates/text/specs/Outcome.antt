@@ -1,9 +1,10 @@
 -- What `line` and `write_text` answer.
-use Rattle.std.specs.Prelude.{ℕ, ◌+◌, Bool, cond, ◌||◌, List, ◌++◌, length, take, drop, Ok, Err, Result, nat_le, nat_lt}
+use Rattle.std.specs.Prelude.{◌≡◌, ℕ, ◌+◌, Bool, true, false, cond, ◌||◌, List, ◌++◌, length, take, drop, Ok, Err, Result, nat_le, nat_lt}
 use Rattle.refusal.specs.declared.Cause as cause
 use Rattle.refusal.specs.declared.Refusal.{Refusal}
 use Rattle.target.specs.declared.row.Row.{Row}
 use Rattle.target.specs.declared.assertion.Assertion.{Assertion}
+use Rattle.target.specs.declared.table.Target.{Target}
 use Rattle.workbook.specs.declared.counts.Counts.{Counts}
 use Rattle.text.specs.declared.whole.Unwritten.{Unwritten}
 use Rattle.text.specs.declared.whole.Unwritten.TheVariants.{Memory, Refused}
@@ -29,6 +30,12 @@ short counts rows assertions = nat_lt (length rows) counts.rows || nat_lt (lengt
 -- the one refusal of both calls
 abbrev pub the_refusal : Counts → Refusal
 the_refusal counts = record { cause = cause.TheVariants.Line; at = count_of counts }
+
+-- both calls go on with the counted part of the tables, or refuse a short one
+abbrev pub counted_or_refused : Counts → List Row → List Assertion → Result Target Refusal → Type 0
+counted_or_refused counts rows assertions (Ok target) =
+    (short counts rows assertions ≡ false) × (target.rows.now ≡ take counts.rows rows) × (target.assertions.now ≡ take counts.assertions assertions)
+counted_or_refused counts rows assertions (Err refusal) = (short counts rows assertions ≡ true) × (refusal ≡ the_refusal counts)
 
 -- line n of a workbook's text
 abbrev pub the_line : Counts → List Row → List Assertion → ℕ → List ℕ

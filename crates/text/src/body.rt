@@ -1,67 +1,48 @@
 // What a row is defined as.
-ghost use Rattle.std.specs.Prelude.{◌≡◌, ◌+◌, ◌≤◌, ◌++◌, length, take};
-ghost use Rattle.text.specs.Lines.{one_text, pair_text, three_text, body_of};
+// (It is put into a draft, and not printed by `write!`: draft.rt says why.)
+ghost use Rattle.std.specs.Prelude.{◌≡◌, ◌≤◌, ◌++◌, length};
+ghost use Rattle.text.specs.Kept.{kept};
+ghost use Rattle.text.specs.Lines.{call_text, body_of};
 
-use crate::put::{put, put_number};
+use crate::draft::Draft;
 use target::row::Row;
 
-fn one(draft: &mut [u8], at: usize, op: &[u8], a: usize) -> usize
-    requires { (length op.now ≤ 8) × (at + 80 ≤ length draft.old) }
-    ensures bytes { take result draft.new ≡ take at draft.old ++ one_text op.now a }
-    ensures most { result ≤ at + 80 }
-{
-    let at = put(draft, at, op);
-    let at = put_number(draft, at, a as u64);
-    put(draft, at, b")")
-}
+impl Draft {
+    // Puts an operation on rows, as `(+ t3 t5)`.
+    #[tactic(auto, using(crate::proofs::Pieces::operands))]
+    fn call(self, op: &str, operands: &[usize]) -> Draft
+        ensures { result ≡ kept (self ++ call_text op.now operands.now) }
+    {
+        let mut draft = self.text("(").text(op);
+        for row in operands {
+            draft = draft.text(" t").number(*row);
+        }
+        draft.text(")")
+    }
 
-fn pair(draft: &mut [u8], at: usize, op: &[u8], a: usize, b: usize) -> usize
-    requires { (length op.now ≤ 8) × (at + 80 ≤ length draft.old) }
-    ensures bytes { take result draft.new ≡ take at draft.old ++ pair_text op.now a b }
-    ensures most { result ≤ at + 80 }
-{
-    let at = put(draft, at, op);
-    let at = put_number(draft, at, a as u64);
-    let at = put(draft, at, b" t");
-    let at = put_number(draft, at, b as u64);
-    put(draft, at, b")")
-}
-
-fn three(draft: &mut [u8], at: usize, op: &[u8], a: usize, b: usize, c: usize) -> usize
-    requires { (length op.now ≤ 8) × (at + 80 ≤ length draft.old) }
-    ensures bytes { take result draft.new ≡ take at draft.old ++ three_text op.now a b c }
-    ensures most { result ≤ at + 80 }
-{
-    let at = put(draft, at, op);
-    let at = put_number(draft, at, a as u64);
-    let at = put(draft, at, b" t");
-    let at = put_number(draft, at, b as u64);
-    let at = put(draft, at, b" t");
-    let at = put_number(draft, at, c as u64);
-    put(draft, at, b")")
-}
-
-pub(crate) fn body(draft: &mut [u8], at: usize, row: Row) -> usize
-    requires { at + 80 ≤ length draft.old }
-    ensures bytes { take result draft.new ≡ take at draft.old ++ body_of row }
-    ensures most { result ≤ at + 80 }
-{
-    match row {
-        Row::Unknown => put(draft, at, b""),
-        Row::Number(n) => put_number(draft, at, n),
-        Row::Truth(true) => put(draft, at, b"true"),
-        Row::Truth(false) => put(draft, at, b"false"),
-        Row::Add(a, b) => pair(draft, at, b"(+ t", a, b),
-        Row::Sub(a, b) => pair(draft, at, b"(- t", a, b),
-        Row::Times(a, b) => pair(draft, at, b"(* t", a, b),
-        Row::Quot(a, b) => pair(draft, at, b"(div t", a, b),
-        Row::Rem(a, b) => pair(draft, at, b"(mod t", a, b),
-        Row::Equal(a, b) => pair(draft, at, b"(= t", a, b),
-        Row::Less(a, b) => pair(draft, at, b"(< t", a, b),
-        Row::AtMost(a, b) => pair(draft, at, b"(<= t", a, b),
-        Row::Not(a) => one(draft, at, b"(not t", a),
-        Row::And(a, b) => pair(draft, at, b"(and t", a, b),
-        Row::Or(a, b) => pair(draft, at, b"(or t", a, b),
-        Row::Choose(_, c, a, b) => three(draft, at, b"(ite t", c, a, b),
+    // Puts what a row is defined as, which 80 bytes hold.
+    #[tactic(auto, using(crate::proofs::Pieces::pieces))]
+    pub(crate) fn body(self, row: Row) -> Draft
+        ensures bytes { result ≡ kept (self ++ body_of row) }
+        ensures most { length (body_of row) ≤ 80 }
+    {
+        match row {
+            Row::Unknown => self.text(""), // nothing, within the 128 bytes
+            Row::Number(n) => self.number(n as usize), // of 64 bits both, and no `From` says so
+            Row::Truth(true) => self.text("true"),
+            Row::Truth(false) => self.text("false"),
+            Row::Add(a, b) => self.call("+", &[a, b]),
+            Row::Sub(a, b) => self.call("-", &[a, b]),
+            Row::Times(a, b) => self.call("*", &[a, b]),
+            Row::Quot(a, b) => self.call("div", &[a, b]),
+            Row::Rem(a, b) => self.call("mod", &[a, b]),
+            Row::Equal(a, b) => self.call("=", &[a, b]),
+            Row::Less(a, b) => self.call("<", &[a, b]),
+            Row::AtMost(a, b) => self.call("<=", &[a, b]),
+            Row::Not(a) => self.call("not", &[a]),
+            Row::And(a, b) => self.call("and", &[a, b]),
+            Row::Or(a, b) => self.call("or", &[a, b]),
+            Row::Choose(_, c, a, b) => self.call("ite", &[c, a, b]),
+        }
     }
 }

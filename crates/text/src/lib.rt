@@ -13,9 +13,10 @@
 #![tactic(auto)]
 
 mod body;
+mod counted;
+mod draft;
 pub mod line;
 mod lines;
-mod put;
 pub mod refused;
 #[cfg(test)]
 mod tests;

@@ -1,24 +1,25 @@
 // The line that states a refusal.
-ghost use Rattle.std.specs.Prelude.{◌≡◌, ◌+◌, ◌≤◌, true, ◌++◌, length, take, is_ok, if◌then◌else◌, vec_len, vec_capacity};
+// (It is put into a draft, and not printed by `write!`: draft.rt says why.)
+ghost use Rattle.std.specs.Prelude.{◌≡◌, ◌+◌, ◌≤◌, true, ◌++◌, length, is_ok, if◌then◌else◌, vec_len, vec_capacity};
 ghost use Rattle.text.specs.Refused.{refusal_line};
 
-use crate::put::{put, put_number};
+use crate::draft::Draft;
 use refusal::Refusal;
 use std::alloc::AllocError;
 
-// Puts the refusal's line at the front of the draft, and answers its length.
-fn put_refusal(draft: &mut [u8], refusal: Refusal) -> usize
-    requires { 128 ≤ length draft.old }
-    ensures bytes { take result draft.new ≡ refusal_line refusal }
-    ensures most { result ≤ 128 }
+#[tactic(auto, using(crate::proofs::Pieces::pieces))]
+fn refused(refusal: Refusal) -> Draft
+    ensures { result ≡ refusal_line refusal }
 {
-    let at = put(draft, 0, b"refused ");
-    let at = put_number(draft, at, refusal.cause.number() as u64);
-    let at = put(draft, at, b" at ");
-    let at = put_number(draft, at, refusal.at as u64);
-    let at = put(draft, at, b" in ");
-    let at = put(draft, at, refusal.cause.layer().word());
-    put(draft, at, b"\n")
+    let number = u8::from(refusal.cause);
+    Draft::new()
+        .text("refused ")
+        .number(usize::from(number))
+        .text(" at ")
+        .number(refusal.at)
+        .text(" in ")
+        .text(refusal.cause.layer().word())
+        .text("\n")
 }
 
 // Appends the refusal's line to `out`, which is as it was where memory runs out.
@@ -26,7 +27,5 @@ pub fn write_refusal(refusal: Refusal, out: &mut Vec<u8>) -> Result<(), AllocErr
     ensures outcome { out.new.items ≡ (if is_ok result then out.old.items ++ refusal_line refusal else out.old.items) }
     ensures enough { vec_len out.old + length (refusal_line refusal) ≤ vec_capacity out.old → is_ok result ≡ true }
 {
-    let mut draft = [0u8; 128];
-    let end = put_refusal(&mut draft, refusal);
-    out.extend_from_slice(&draft[0..end])
+    out.extend_from_slice(refused(refusal).bytes())
 }

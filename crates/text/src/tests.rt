@@ -1,8 +1,10 @@
 // Lines written out by hand.
 use crate::line::line;
 use crate::refused::write_refusal;
-use refusal::{Cause, Refusal};
+use crate::whole::write_text;
+use refusal::Cause;
 use std::test::Fail;
+use target::table::Target;
 use workbook::book::Open;
 
 #[test]
@@ -17,7 +19,7 @@ fn refusals(rt: HostRuntime) -> Result<(), Fail> {
     ];
     let mut out = Vec::new(rt.alloc());
     for (cause, at) in table {
-        write_refusal(Refusal { cause, at }, &mut out)?;
+        write_refusal(cause.at(at), &mut out)?;
     }
     let lines =
         b"refused 1 at 0 in text\nrefused 7 at 17 in order\nrefused 7 at 16384 in text\nrefused 9 at 32768 in workbook\nrefused 14 at 9 in model\nrefused 15 at 18446744073709551615 in line\n";
@@ -28,15 +30,29 @@ fn refusals(rt: HostRuntime) -> Result<(), Fail> {
 #[test]
 fn empty_target(rt: HostRuntime) {
     let book = Open::begin().seal();
-    let refused = Err(Refusal {
-        cause: Cause::Line,
-        at: 2,
-    });
+    let target = Target {
+        rows: &[],
+        assertions: &[],
+    };
+    let refused = Err(Cause::Line.at(2));
     let mut buffer = [b'.'; 64];
-    assert_eq!(rt; line(&book, &[], &[], 0, &mut buffer), Ok(19));
+    assert_eq!(rt; line(&book, target, 0, &mut buffer), Ok(19));
     assert!(rt; &buffer[0..21] == b"(set-logic QF_NIA)\n..".as_slice());
-    assert_eq!(rt; line(&book, &[], &[], 1, &mut buffer), Ok(12));
+    assert_eq!(rt; line(&book, target, 1, &mut buffer), Ok(12));
     assert!(rt; &buffer[0..21] == b"(check-sat)\nF_NIA)\n..".as_slice());
-    assert_eq!(rt; line(&book, &[], &[], 2, &mut buffer), refused);
-    assert_eq!(rt; line(&book, &[], &[], 0, &mut buffer[0..63]), refused);
+    assert_eq!(rt; line(&book, target, 2, &mut buffer), refused);
+    assert_eq!(rt; line(&book, target, 0, &mut buffer[0..63]), refused);
+}
+
+#[test]
+fn empty_text(rt: HostRuntime) -> Result<(), Fail> {
+    let book = Open::begin().seal();
+    let target = Target {
+        rows: &[],
+        assertions: &[],
+    };
+    let mut out = Vec::new(rt.alloc());
+    assert_eq!(rt; write_text(&book, target, &mut out), Ok(()));
+    assert!(rt; out.as_slice() == b"(set-logic QF_NIA)\n(check-sat)\n".as_slice());
+    Ok(())
 }

@@ -1,12 +1,13 @@
 -- From a reading to a translation.
-use Rattle.std.proofs.Common.{◌≡◌, ℕ, ◌-◌, List, [], ◌∷◌, length, take, drop, replicate, Some, None, Ok, Err, Option, Result, sym, refl, ap, ◌∙◌, arith}
+use Rattle.std.proofs.Common.{◌≡◌, ℕ, ◌-◌, List, [], ◌∷◌, length, take, drop, replicate, Ok, Err, Result, sym, refl, ap, ◌∙◌, arith}
 use Rattle.std.proofs.lemmas.List.{take_at}
+use Rattle.refusal.specs.Causes.{told}
 use Rattle.refusal.specs.declared.Cause.{Cause}
 use Rattle.refusal.specs.declared.Refusal.{Refusal}
 use Rattle.source.specs.declared.order.Order.{Order}
 use Rattle.script.specs.Reading.{Read, answer_of, orders_left, blank_order, padded}
 use Rattle.workbook.specs.Pages.{Pages, pages_at, nothing_used}
-use Rattle.workbook.specs.Room.{short_of}
+use Rattle.workbook.specs.Room.{long_enough}
 use Rattle.workbook.specs.Declare.{Outcome, entered}
 use Rattle.workbook.specs.Feed.{followed, entered_all, fed}
 use Rattle.workbook.specs.declared.counts.Counts.{Counts}
@@ -19,7 +20,7 @@ begun counts t s r a = rw (s, r, a) refl
 
 -- a refused reading
 pub read_refused : {R : Type 0} (whole : ℕ → R) (x : Result Read Refusal) (p : Pages R) (e : Refusal) → Err e ≡ answer_of x → (Err e, p) ≡ entered_from whole x p
-read_refused whole (Ok read) p e h = let z : ◌≡◌ {A = ℕ} 0 1 = cc in absurd (omega arith)
+read_refused whole (Ok read) p e h = absurd (cc)
 read_refused {R} whole (Err f) p e h = let s : e ≡ f = cc in ap (λ (x : Refusal). (Err x, p)) s
 
 -- the orders in use, of a table that begins with them
@@ -29,7 +30,7 @@ taken os xs n m e h = let z : m - 0 ≡ length xs = omega arith in rw (z, e) (ta
 -- a granted reading, whose orders were fed
 pub read_fed : {R : Type 0} (whole : ℕ → R) (x : Result Read Refusal) (p q : Pages R) (n m : ℕ) (os : List Order) (r : Result ℕ Refusal)
     → Ok m ≡ answer_of x → os ≡ padded n blank_order (orders_left x) → (r, q) ≡ fed whole p (take (m - 0) (drop 0 os)) → (r, q) ≡ entered_from whole x p
-read_fed whole (Err e) p q n m os r a t f = let z : ◌≡◌ {A = ℕ} 0 1 = cc in absurd (omega arith)
+read_fed whole (Err e) p q n m os r a t f = absurd (cc)
 read_fed whole (Ok read) p q n m os r a t f =
     let h : m ≡ length read.orders = cc in
     f ∙ ap (λ (l : List Order). fed whole p l) (taken os read.orders n m t h)
@@ -37,7 +38,7 @@ read_fed whole (Ok read) p q n m os r a t f =
 -- a granted feed answers the source row count
 followed_answer : {R : Type 0} (o : Outcome R) (rest : Pages R → Outcome R) (n : ℕ) (q : Pages R) → ((p : Pages R) → (Ok n, q) ≡ rest p → n ≡ q.source_count) → (Ok n, q) ≡ followed o rest → n ≡ q.source_count
 followed_answer (Ok m, p) rest n q h e = h p e
-followed_answer {R} (Err x, p) rest n q h e = let f = ap (λ (o : Outcome R). o.0) e in let z : ◌≡◌ {A = ℕ} 0 1 = cc in absurd (omega arith)
+followed_answer {R} (Err x, p) rest n q h e = let f = ap (λ (o : Outcome R). o.0) e in absurd (cc)
 
 all_answer : {R : Type 0} (whole : ℕ → R) (os : List Order) (p q : Pages R) (n : ℕ) → (Ok n, q) ≡ entered_all whole os p → n ≡ q.source_count
 all_answer {R} whole [] p q n e =
@@ -48,11 +49,11 @@ all_answer {R} whole [] p q n e =
 all_answer whole (o ∷ os) p q n e = followed_answer (entered whole o.place p o.act) (entered_all whole os) n q (λ x. all_answer whole os x q n) e
 
 pub fed_answer : {R : Type 0} (whole : ℕ → R) (os : List Order) (p q : Pages R) (n : ℕ) → (Ok n, q) ≡ fed whole p os → n ≡ q.source_count
-fed_answer {R} whole os p q n e = by (short_of p) refl e
+fed_answer {R} whole os p q n e = by (long_enough p) refl e
   where
-    by : (s : Option Cause) → short_of p ≡ s → ◌≡◌ {A = Outcome R} (Ok n, q) (elim s [ None ↦ entered_all whole os p | Some cause ↦ (Err (record { cause = cause; at = p.source_count }), p) ]) → n ≡ q.source_count
-    by None h e = all_answer whole os p q n e
-    by (Some cause) h e = let f = ap (λ (o : Outcome R). o.0) e in let z : ◌≡◌ {A = ℕ} 0 1 = cc in absurd (omega arith)
+    by : (s : Result (Unit {0}) Cause) → long_enough p ≡ s → ◌≡◌ {A = Outcome R} (Ok n, q) (elim s [ Ok _ ↦ entered_all whole os p | Err cause ↦ (Err (told cause p.source_count), p) ]) → n ≡ q.source_count
+    by (Ok _) h e = all_answer whole os p q n e
+    by (Err cause) h e = let f = ap (λ (o : Outcome R). o.0) e in absurd (cc)
 
 -- the same from a workbook that was begun
 module _ {R : Type 0} (whole : ℕ → R) (x : Result Read Refusal) (t : Tables R) (counts : Counts) (zeros : (counts.sources ≡ 0) × (counts.rows ≡ 0) × (counts.assertions ≡ 0))

@@ -1,8 +1,8 @@
 -- What the program prints for a script.
-use Rattle.std.specs.Prelude.{◌≡◌, ℕ, Bool, cond, List, ◌++◌, length, take, replicate, is_ok, Ok, Err, Result, nat_lt}
+use Rattle.std.specs.Prelude.{◌≡◌, ℕ, cond, List, ◌++◌, length, take, replicate, Ok, Err, Result, nat_lt}
 use Rattle.keeper.specs.Intervals.{whole_interval}
 use Rattle.keeper.specs.declared.record.IntervalRecord.{IntervalRecord}
-use Rattle.script.specs.Reading.{full}
+use Rattle.script.specs.Reading.{full, blank_order, blank_name}
 use Rattle.source.specs.declared.order.Act.TheVariants.{Declare}
 use Rattle.source.specs.declared.order.Sort.TheVariants.{Bool as Truth}
 use Rattle.source.specs.declared.order.Source.{Source}
@@ -19,6 +19,7 @@ use Rattle.text.specs.Refused.{refusal_line}
 use Rattle.workbook.specs.Pages.{Pages}
 use Rattle.workbook.specs.Declare.{Outcome}
 use Rattle.translate.specs.Translation.{translation}
+use Rattle.translate.specs.declared.answer.Own.{Own}
 
 -- more than 16,384 bytes are refused; fewer are translated, with an order table and a name table of these lengths
 abbrev pub answered : ℕ → ℕ → List ℕ → Pages IntervalRecord → Outcome IntervalRecord
@@ -58,13 +59,27 @@ blank_assertion = record { row = 0; source = 0; kind = Range }
 abbrev pub own_tables : Pages IntervalRecord
 own_tables = begun_on (replicate 1024 blank_source) (replicate 1024 (whole_interval 1)) (replicate 2048 Unknown) (replicate 4096 blank_assertion)
 
--- what is printed for a script, and whether that is its text: with room for 1,024 orders and 256 names
+-- the same tables, with the order table and the name table, as the code holds them
+pub record IsBlank (own : Own) : Type 0 where
+  pub orders : own.orders.items ≡ replicate 1024 blank_order
+  pub names : own.names.items ≡ replicate 256 blank_name
+  pub sources : own.sources.items ≡ replicate 1024 blank_source
+  pub records : own.records.items ≡ replicate 1024 (whole_interval 1)
+  pub rows : own.rows.items ≡ replicate 2048 Unknown
+  pub assertions : own.assertions.items ≡ replicate 4096 blank_assertion
+
+-- what becomes of a script: it is granted, or refused with this refusal
+abbrev pub verdict : {A : Type 0} → Result A Refusal → Result (Unit {0}) Refusal
+verdict (Ok _) = Ok tt
+verdict (Err e) = Err e
+
+-- what is printed for a script, and what becomes of it: with room for 1,024 orders and 256 names
 abbrev pub printed : List ℕ → List ℕ
 printed bytes = written (answered 1024 256 bytes own_tables)
 
-abbrev pub granted : List ℕ → Bool
-granted bytes = is_ok (answered 1024 256 bytes own_tables).0
+abbrev pub granted : List ℕ → Result (Unit {0}) Refusal
+granted bytes = verdict (answered 1024 256 bytes own_tables).0
 
--- what was appended to `before` for an outcome: its text or its refusal's line, and which of the two
-abbrev pub Printed : Outcome IntervalRecord → List ℕ → Bool → List ℕ → Type 0
-Printed o before is_text after = (is_text ≡ is_ok o.0) × (after ≡ before ++ written o)
+-- what was appended to `before` for an outcome: its text or its refusal's line, as the answer says
+abbrev pub Printed : Outcome IntervalRecord → List ℕ → Result (Unit {0}) Refusal → List ℕ → Type 0
+Printed o before answer after = (answer ≡ verdict o.0) × (after ≡ before ++ written o)

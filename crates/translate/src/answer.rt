@@ -1,63 +1,112 @@
 // What the program prints for a script.
-ghost use Rattle.std.specs.Prelude.{◌≡◌, false, ◌++◌, length, replicate, is_ok, IfOk};
+ghost use Rattle.std.specs.Prelude.{◌≡◌, false, ◌++◌, length, IfOk};
 ghost use Rattle.text.specs.Outcome.{short};
-ghost use Rattle.workbook.specs.Held.{SameTables};
 ghost use Rattle.workbook.specs.Pages.{pages_at, nothing_used};
 ghost use Rattle.translate.specs.Translation.{Left};
-ghost use Rattle.translate.specs.Answer.{answered, line_or_text, begun_on, Printed, printed, granted};
+ghost use Rattle.translate.specs.Answer.{answered, line_or_text, verdict, Printed, printed, granted};
 
 use crate::translate::translate;
 use keeper::interval::Interval;
 use keeper::record::IntervalRecord;
 use refusal::{Cause, Refusal};
 use script::names::Name;
+use script::read::{BLANK_NAME, BLANK_ORDER};
 use source::order::{Act, Order, Sort, Source};
+use source::width::Width;
 use std::alloc::{AllocError, Global};
 use target::assertion::{Assertion, Kind};
 use target::row::Row;
+use target::table::Target;
 use text::refused::write_refusal;
 use text::whole::{Unwritten, write_text};
 use workbook::book::Sealed;
 use workbook::tables::Tables;
 
-// Translates a script on these tables, or refuses one that is too long for the program.
-fn attempt(
-    script: &[u8],
-    orders: &mut [Order],
-    names: &mut [Name],
-    t: &mut Tables<'_, IntervalRecord>,
-) -> Result<Sealed, Refusal>
-    ensures outcome { Left (answered (length orders.old) (length names.old) script.now (pages_at nothing_used t.old)) result t.new }
-    ensures lent { SameTables t.old t.new }
-{
-    if script.len() > 16384 {
-        return Err(Refusal {
-            cause: Cause::Capacity,
-            at: 16384,
-        });
-    }
-    translate(script, orders, names, &Interval, t)
+// The most bytes that a script may have.
+pub const BYTES: usize = 16384;
+
+// The program's own tables.
+#[derive(Drop)]
+struct Own {
+    orders: Vec<Order>,
+    names: Vec<Name>,
+    sources: Vec<Source>,
+    records: Vec<IntervalRecord>,
+    rows: Vec<Row>,
+    assertions: Vec<Assertion>,
 }
 
-// The text of a sealed workbook, or the line of a refusal, and which of the two it is.
+impl Own {
+    ghost use Rattle.translate.specs.Answer.{IsBlank};
+
+    // Tables of which nothing is in use: 2,048 target rows, the others at their limits.
+    fn new(alloc: Global) -> Result<Own, AllocError>
+        ensures { IfOk result IsBlank }
+    {
+        let source = Source {
+            act: Act::Declare(0),
+            sort: Sort::Bool,
+            image: 0,
+        };
+        let record = IntervalRecord::whole(Width::new(1).unwrap());
+        let assertion = Assertion {
+            row: 0,
+            source: 0,
+            kind: Kind::Range,
+        };
+        Ok(Own {
+            orders: vec![in alloc; BLANK_ORDER; 1024]?,
+            names: vec![in alloc; BLANK_NAME; 256]?,
+            sources: vec![in alloc; source; 1024]?,
+            records: vec![in alloc; record; 1024]?,
+            rows: vec![in alloc; Row::Unknown; 2048]?,
+            assertions: vec![in alloc; assertion; 4096]?,
+        })
+    }
+}
+
+// The tables that a script is translated on.
+#[derive(Drop)]
+struct Lent<'a> {
+    orders: &'a mut [Order],
+    names: &'a mut [Name],
+    tables: Tables<'a, IntervalRecord>,
+}
+
+// Translates a script on these tables, or refuses one that is too long for the program.
+fn attempt(script: &[u8], lent: &mut Lent<'_>) -> Result<Sealed, Refusal>
+    ensures { Left (answered (length lent.old.orders.now) (length lent.old.names.now) script.now (pages_at nothing_used lent.old.tables)) result lent.new.tables }
+{
+    if script.len() > BYTES {
+        return Err(Cause::Capacity.at(BYTES));
+    }
+    translate(script, lent.orders, lent.names, &Interval, &mut lent.tables)
+}
+
+// Writes the text of a sealed workbook, or the line of a refusal, which is then the answer.
 fn put(
     outcome: Result<Sealed, Refusal>,
-    rows: &[Row],
-    assertions: &[Assertion],
+    tables: &Tables<'_, IntervalRecord>,
     out: &mut Vec<u8>,
-) -> Result<bool, AllocError>
-    requires { IfOk outcome (λ book. short book.counts rows.now assertions.now ≡ false) }
-    ensures { IfOk result (λ is_text. (is_text ≡ is_ok outcome) × (out.new.items ≡ out.old.items ++ line_or_text outcome rows.now assertions.now)) }
+) -> Result<Result<(), Refusal>, AllocError>
+    requires { IfOk outcome (λ book. short book.counts tables.now.rows.now tables.now.assertions.now ≡ false) }
+    ensures { IfOk result (λ answer. (answer ≡ verdict outcome) × (out.new.items ≡ out.old.items ++ line_or_text outcome tables.now.rows.now tables.now.assertions.now)) }
 {
-    match outcome {
-        Ok(book) => match write_text(&book, rows, assertions, out) {
-            Ok(()) => Ok(true),
-            Err(Unwritten::Memory) => Err(AllocError),
-            Err(Unwritten::Refused(_)) => unreachable(),
-        },
-        Err(refusal) => {
+    let target = Target {
+        rows: tables.rows,
+        assertions: tables.assertions,
+    };
+    let written = match outcome {
+        Ok(book) => write_text(&book, target, out),
+        Err(refusal) => Err(Unwritten::Refused(refusal)),
+    };
+    // want of memory ends the call, while a refusal is printed and is the answer
+    match written {
+        Ok(()) => Ok(Ok(())),
+        Err(Unwritten::Memory) => Err(AllocError),
+        Err(Unwritten::Refused(refusal)) => {
             write_refusal(refusal, out)?;
-            Ok(false)
+            Ok(Err(refusal))
         }
     }
 }
@@ -65,97 +114,36 @@ fn put(
 // Translates a script on these tables and writes what is printed for it.
 fn answer_on(
     script: &[u8],
-    orders: &mut [Order],
-    names: &mut [Name],
-    sources: &mut [Source],
-    records: &mut [IntervalRecord],
-    rows: &mut [Row],
-    assertions: &mut [Assertion],
+    lent: &mut Lent<'_>,
     out: &mut Vec<u8>,
-) -> Result<bool, AllocError>
-    ensures { IfOk result (λ is_text. Printed (answered (length orders.old) (length names.old) script.now (begun_on sources.old records.old rows.old assertions.old)) out.old.items is_text out.new.items) }
+) -> Result<Result<(), Refusal>, AllocError>
+    ensures { IfOk result (λ answer. Printed (answered (length lent.old.orders.now) (length lent.old.names.now) script.now (pages_at nothing_used lent.old.tables)) out.old.items answer out.new.items) }
 {
-    let outcome = {
-        let mut t = Tables {
-            sources,
-            records,
-            rows: &mut *rows,
-            assertions: &mut *assertions,
-        };
-        attempt(script, orders, names, &mut t)
+    let outcome = attempt(script, lent);
+    put(outcome, &lent.tables, out)
+}
+
+// What the program prints for a script, appended to `out`: the script's text, or the line of its refusal, which is
+// then the answer. The call itself fails only for want of memory. (One result in the other, so that `?` passes on want of
+// memory alone.)
+pub fn answer(
+    heap: Global,
+    script: &[u8],
+    out: &mut Vec<u8>,
+) -> Result<Result<(), Refusal>, AllocError>
+    ensures printed { IfOk result (λ answer. (answer ≡ granted script.now) × (out.new.items ≡ out.old.items ++ printed script.now)) }
+{
+    let mut own = Own::new(heap)?;
+    let tables = Tables {
+        sources: &mut own.sources,
+        records: &mut own.records,
+        rows: &mut own.rows,
+        assertions: &mut own.assertions,
     };
-    put(outcome, rows, assertions, out)
-}
-
-// A table of n elements that are all x.
-fn table<T: Copy>(heap: Global, x: T, n: usize) -> Result<Vec<T>, AllocError>
-    ensures { IfOk result (λ v. v.items ≡ replicate n x) }
-{
-    let mut v = Vec::with_capacity(heap, n)?;
-    for i in 0..n {
-        v.push(x)?;
-    }
-    Ok(v)
-}
-
-// What the program prints for a script, appended to `out`: the script's text, and then the answer is true, or
-// the line of its refusal. The tables are its own: 2,048 target rows, the others at their limits.
-pub fn answer(heap: Global, script: &[u8], out: &mut Vec<u8>) -> Result<bool, AllocError>
-    ensures printed { IfOk result (λ is_text. (is_text ≡ granted script.now) × (out.new.items ≡ out.old.items ++ printed script.now)) }
-{
-    let mut orders = table(
-        heap,
-        Order {
-            place: 0,
-            act: Act::Declare(0),
-        },
-        1024,
-    )?;
-    let mut names = table(
-        heap,
-        Name {
-            place: 0,
-            after: 0,
-            row: 0,
-        },
-        256,
-    )?;
-    let mut sources = table(
-        heap,
-        Source {
-            act: Act::Declare(0),
-            sort: Sort::Bool,
-            image: 0,
-        },
-        1024,
-    )?;
-    let mut records = table(
-        heap,
-        IntervalRecord {
-            width: 1,
-            lo: 0,
-            hi: 1,
-        },
-        1024,
-    )?;
-    let mut rows = table(heap, Row::Unknown, 2048)?;
-    let mut assertions = table(
-        heap,
-        Assertion {
-            row: 0,
-            source: 0,
-            kind: Kind::Range,
-        },
-        4096,
-    )?;
-    answer_on(
-        script,
-        &mut orders,
-        &mut names,
-        &mut sources,
-        &mut records,
-        &mut rows,
-        &mut assertions,
-        out,
-    )
+    let mut lent = Lent {
+        orders: &mut own.orders,
+        names: &mut own.names,
+        tables,
+    };
+    answer_on(script, &mut lent, out)
 }

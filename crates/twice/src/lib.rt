@@ -2,49 +2,40 @@
 // answers. That its promise is proved shows that the interface says enough for callers to build on.
 #![tactic(auto)]
 
-ghost use Rattle.std.specs.Prelude.{◌≡◌, ◌+◌, ◌≤◌, length};
-ghost use Rattle.target.specs.Tables.{laid};
 ghost use Rattle.twice.specs.Both.{Outcome};
 
 use refusal::Refusal;
-use scheme::cause::cause_of;
+use scheme::cause::check;
+use scheme::lemma::Lemma;
 use scheme::scheme::Scheme;
 use target::row::Row;
 use target::table::lay;
 
-// Writes a row where there is room for it.
-fn put(rows: &mut [Row], at: usize, new: &[Row])
-    requires { at + length new.now ≤ length rows.old }
-    ensures { rows.new ≡ laid rows.old at new.now }
-{
-    let _ = lay(rows, at, new);
-}
-
-// States that the row c is the bitwise and of the rows a and b, and the row e that of the rows c and d, at the width k.
-// Granted, the answer is the row that is true exactly when both are so; refused, the table is as it was.
+// States the lemma, and that the row e is the bitwise and of its row c and the row d, at the same width. Granted, the
+// answer is the row that is true exactly when both are so; refused, the table is as it was.
+// (Rows are put at an index of the slice that the caller supplies, to which `count` belongs.)
 pub fn both<S: Scheme>(
     scheme: &S,
     rows: &mut [Row],
     count: usize,
-    k: u32,
-    a: usize,
-    b: usize,
-    c: usize,
+    lemma: Lemma,
     d: usize,
     e: usize,
 ) -> Result<usize, Refusal>
-    ensures { Outcome (S.Scheme.size scheme.now k) rows.old rows.new count k a b c d e result }
+    ensures { Outcome (S.Scheme.size scheme.now lemma.k) rows.old rows.new count lemma d e result }
 {
-    let size = scheme.size_at(k);
-    if let Some(cause) = cause_of(rows, size, count, k, a, b, c) {
-        return Err(Refusal { cause, at: count });
-    }
-    if let Some(cause) = cause_of(rows, 2 * size + 1, count, k, c, d, e) {
-        return Err(Refusal { cause, at: count });
-    }
-    let first = scheme.state(rows, count, k, a, b, c)?;
-    let second = scheme.state(rows, count + size, k, c, d, e)?;
+    let next = Lemma {
+        a: lemma.c,
+        b: d,
+        c: e,
+        ..lemma
+    };
+    let size = scheme.size_at(lemma.k);
+    check(rows, size, count, lemma)?;
+    check(rows, 2 * size + 1, count, next)?;
+    let first = scheme.state(rows, count, lemma)?;
+    let second = scheme.state(rows, count + size, next)?;
     let answer = count + 2 * size;
-    put(rows, answer, &[Row::And(first, second)]);
+    let _ = lay(rows, answer, &[Row::And(first, second)]);
     Ok(answer)
 }

@@ -1,5 +1,5 @@
 -- What the steps make of a line that spells pieces.
-use Rattle.std.proofs.Common.{◌≡◌, ℕ, zero, suc, ◌+◌, ◌-◌, ◌*◌, ◌/◌, ◌%◌, ◌^◌, ◌<◌, ◌≤◌, min, Bool, true, false, Some, None, List, [], ◌∷◌, ◌++◌, map, length, replicate, inl, inr, sym, refl, ap, ◌∙◌, append_assoc, append-nil, arith}
+use Rattle.std.proofs.Common.{◌≡◌, ℕ, zero, suc, ◌+◌, ◌-◌, ◌*◌, ◌/◌, ◌%◌, ◌^◌, ◌<◌, ◌≤◌, min, Option, Some, None, unwrap_or, ◌==◌, if◌then◌else◌, drop, List, [], ◌∷◌, ◌++◌, map, length, replicate, inl, inr, sym, refl, ap, ◌∙◌, append_assoc, append-nil, arith}
 use Rattle.std.specs.List.{All, flat_map, concat, fold}
 use Rattle.std.specs.Int.Digits.{digits_of, number_from_digits_after, AllBelowBase}
 use Rattle.std.proofs.lemmas.Bool.{lt-ltb, le-ltb, ne_eqb, cases_lt, cases_eq}
@@ -16,12 +16,12 @@ abbrev pub run : State → List ℕ → State
 run s bytes = fold after s bytes
 
 -- no digit waits
-abbrev pub reading_at : ℕ → ℕ → Bool → List ℕ → State
-reading_at start times counting script = state (record { start = start; high = None; times = times; counting = counting }) script
+abbrev pub reading_at : ℕ → Option ℕ → List ℕ → State
+reading_at start times script = state (record { start = start; high = None; times = times }) script
 
 -- a piece begins behind a script
 abbrev pub fresh : List ℕ → State
-fresh script = reading_at (length script) 1 false script
+fresh script = reading_at (length script) None script
 
 -- the digits, read back
 digit_low : (d : ℕ) → d < 10 → digit_of (48 + d) ≡ Some d
@@ -45,55 +45,57 @@ after_hex s d h =
     ]
 
 -- two digits are a byte
-byte_read : (start times : ℕ) (script : List ℕ) (b : ℕ) → b < 256 → run (reading_at start times false script) (hex_byte b) ≡ reading_at start times false (script ++ b ∷ [])
-byte_read start times script b h =
-    let s : State = reading_at start times false script in
+byte_read : (start : ℕ) (script : List ℕ) (b : ℕ) → b < 256 → run (reading_at start None script) (hex_byte b) ≡ reading_at start None (script ++ b ∷ [])
+byte_read start script b h =
+    let s : State = reading_at start None script in
     let whole : b / 16 % 16 * 16 + b % 16 % 16 ≡ b = omega arith in
     ap (λ t. after t (hex_digit (b % 16))) (after_hex s (b / 16) (omega arith))
     ∙ after_hex (after_digit s (b / 16)) (b % 16) (omega arith)
-    ∙ ap (λ n. reading_at start times false (script ++ n ∷ [])) whole
+    ∙ ap (λ n. reading_at start None (script ++ n ∷ [])) whole
 
 -- so the digits of some bytes are those bytes
-bytes_read : (start times : ℕ) (script bytes : List ℕ) → All (λ b. b < 256) bytes
-    → run (reading_at start times false script) (flat_map hex_byte bytes) ≡ reading_at start times false (script ++ bytes)
-bytes_read start times script [] h = ap (reading_at start times false) (sym (append-nil script))
-bytes_read start times script (b ∷ bs) h =
-    ap (λ t. run t (flat_map hex_byte bs)) (byte_read start times script b (All-head (λ n. n < 256) b bs h))
-    ∙ bytes_read start times (script ++ b ∷ []) bs (All-tail (λ n. n < 256) b bs h)
-    ∙ ap (reading_at start times false) (append_assoc script (b ∷ []) bs)
+bytes_read : (start : ℕ) (script bytes : List ℕ) → All (λ b. b < 256) bytes
+    → run (reading_at start None script) (flat_map hex_byte bytes) ≡ reading_at start None (script ++ bytes)
+bytes_read start script [] h = ap (reading_at start None) (sym (append-nil script))
+bytes_read start script (b ∷ bs) h =
+    ap (λ t. run t (flat_map hex_byte bs)) (byte_read start script b (All-head (λ n. n < 256) b bs h))
+    ∙ bytes_read start (script ++ b ∷ []) bs (All-tail (λ n. n < 256) b bs h)
+    ∙ ap (reading_at start None) (append_assoc script (b ∷ []) bs)
 
 -- a numeral that fits never meets the largest number
 digits_read : (start n : ℕ) (script ds : List ℕ) → AllBelowBase 10 ds → number_from_digits_after 10 n ds < 2 ^ 64
-    → run (reading_at start n true script) (map (λ d. 48 + d) ds) ≡ reading_at start (number_from_digits_after 10 n ds) true script
+    → run (reading_at start (Some n) script) (map (λ d. 48 + d) ds) ≡ reading_at start (Some (number_from_digits_after 10 n ds)) script
 digits_read start n script [] digits small = refl
 digits_read start n script (d ∷ ds) digits small =
     let fits : min (min (n * 10) (2 ^ 64 - 1) + d) (2 ^ 64 - 1) ≡ n * 10 + d = omega (arith, number_after_ge 10 (n * 10 + d) ds (omega arith), small) in
-    ap (λ t. run t (map (λ k. 48 + k) ds)) (after_low (reading_at start n true script) d digits.0 ∙ ap (λ m. reading_at start m true script) fits)
+    ap (λ t. run t (map (λ k. 48 + k) ds)) (after_low (reading_at start (Some n) script) d digits.0 ∙ ap (λ m. reading_at start (Some m) script) fits)
     ∙ digits_read start (n * 10 + d) script ds digits.1 small
 
+-- what a piece says of the number of times: nothing where that is 1
+abbrev said : ℕ → Option ℕ
+said n = if n == 1 then None else Some n
+
+times_said : (n : ℕ) → unwrap_or (said n) 1 ≡ n
+times_said n = elim (cases_eq n 1) [ inl one ↦ rw one | inr more ↦ rw (ne_eqb n 1 more) ]
+
 -- the number of times, written or 1
-times_read : (start n : ℕ) (script : List ℕ) → 1 ≤ n → n < 2 ^ 64
-    → (counting : Bool) × (run (reading_at start 1 false script) (times_text n) ≡ reading_at start n counting script)
-times_read start n script h small =
+times_read : (start n : ℕ) (script : List ℕ) → n < 2 ^ 64 → run (reading_at start None script) (times_text n) ≡ reading_at start (said n) script
+times_read start n script small =
     elim (cases_eq n 1) [
-      | inl one ↦ (false, rw one)
-      | inr more ↦ (
-        true,
-        rw (ne_eqb n 1 more) (
-            digits_read start 0 script (digits_of 10 n) (all_below_base_digits_of 10 n (omega arith)) (rw (number_digits_of 10 n (omega arith)) small)
-            ∙ ap (λ m. reading_at start m true script) (number_digits_of 10 n (omega arith))),
-      )
+      | inl one ↦ rw one
+      | inr more ↦
+          rw (ne_eqb n 1 more) (
+          digits_read start 0 script (digits_of 10 n) (all_below_base_digits_of 10 n (omega arith)) (rw (number_digits_of 10 n (omega arith)) small)
+          ∙ ap (λ m. reading_at start (Some m) script) (number_digits_of 10 n (omega arith)))
     ]
 
 -- a piece, but for its copies
 piece_read : (piece : Piece) (script : List ℕ) → IsPiece piece
-    → (counting : Bool) × (run (fresh script) (piece_text piece) ≡ reading_at (length script) piece.times counting (script ++ piece.bytes))
+    → run (fresh script) (piece_text piece) ≡ reading_at (length script) (said piece.times) (script ++ piece.bytes)
 piece_read piece script h =
-    let r = times_read (length script) piece.times (script ++ piece.bytes) h.stands h.counted in (
-      r.0,
-      fold-append after (fresh script) (flat_map hex_byte piece.bytes) (times_text piece.times)
-          ∙ ap (λ t. run t (times_text piece.times)) (bytes_read (length script) 1 script piece.bytes h.are_bytes) ∙ r.1,
-    )
+    fold-append after (fresh script) (flat_map hex_byte piece.bytes) (times_text piece.times)
+    ∙ ap (λ t. run t (times_text piece.times)) (bytes_read (length script) script piece.bytes h.are_bytes)
+    ∙ times_read (length script) piece.times (script ++ piece.bytes) h.counted
 
 -- once, and as often again as it says
 again : (n : ℕ) (bytes : List ℕ) → 1 ≤ n → bytes ++ concat (replicate (n - 1) bytes) ≡ concat (replicate n bytes)
@@ -101,10 +103,11 @@ again zero bytes h = absurd (omega arith)
 again (suc n) bytes h = let one : suc n - 1 ≡ n = omega arith in ap (λ k. bytes ++ concat (replicate k bytes)) one
 
 -- the end of a piece
-piece_ends : (piece : Piece) (script : List ℕ) (counting : Bool) → IsPiece piece
-    → with_copies (reading_at (length script) piece.times counting (script ++ piece.bytes)) ≡ script ++ concat (replicate piece.times piece.bytes)
-piece_ends piece script counting h =
-    ap (λ t. (script ++ piece.bytes) ++ concat (replicate (piece.times - 1) t)) (drop_at script piece.bytes (length script) refl)
+piece_ends : (piece : Piece) (script : List ℕ) → IsPiece piece
+    → with_copies (reading_at (length script) (said piece.times) (script ++ piece.bytes)) ≡ script ++ concat (replicate piece.times piece.bytes)
+piece_ends piece script h =
+    ap (λ n. (script ++ piece.bytes) ++ concat (replicate (n - 1) (drop (length script) (script ++ piece.bytes)))) (times_said piece.times)
+    ∙ ap (λ t. (script ++ piece.bytes) ++ concat (replicate (piece.times - 1) t)) (drop_at script piece.bytes (length script) refl)
     ∙ append_assoc script piece.bytes (concat (replicate (piece.times - 1) piece.bytes))
     ∙ ap (λ t. script ++ t) (again piece.times piece.bytes h.stands)
 
@@ -113,14 +116,12 @@ pub line_read : (pieces : List Piece) (script : List ℕ) → All IsPiece pieces
 line_read [] script h = refl
 line_read (piece ∷ []) script h =
     let is = All-head IsPiece piece [] h in
-    let r = piece_read piece script is in
-    ap with_copies r.1 ∙ piece_ends piece script r.0 is ∙ ap (λ t. script ++ t) (sym (append-nil (concat (replicate piece.times piece.bytes))))
+    ap with_copies (piece_read piece script is) ∙ piece_ends piece script is ∙ ap (λ t. script ++ t) (sym (append-nil (concat (replicate piece.times piece.bytes))))
 line_read (piece ∷ next ∷ pieces) script h =
     let is = All-head IsPiece piece (next ∷ pieces) h in
-    let r = piece_read piece script is in
     let rest : List ℕ = line_of (next ∷ pieces) in
     let copies : List ℕ = concat (replicate piece.times piece.bytes) in
-    ap with_copies (fold-append after (fresh script) (piece_text piece) (32 ∷ rest) ∙ ap (λ t. run (after_space t) rest) r.1
-    ∙ ap (λ t. run (fresh t) rest) (piece_ends piece script r.0 is))
+    ap with_copies (fold-append after (fresh script) (piece_text piece) (32 ∷ rest) ∙ ap (λ t. run (after_space t) rest) (piece_read piece script is)
+    ∙ ap (λ t. run (fresh t) rest) (piece_ends piece script is))
     ∙ line_read (next ∷ pieces) (script ++ copies) (All-tail IsPiece piece (next ∷ pieces) h)
     ∙ append_assoc script copies (script_of (next ∷ pieces))

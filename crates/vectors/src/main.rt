@@ -23,15 +23,10 @@ fn run_line(rt: &HostRuntime, n: usize, line: &[u8]) -> io::Result<()> {
 fn main(rt: HostRuntime) -> io::Result<()> {
     let mut input = Vec::new(rt.alloc());
     rt.stdin().read_to_end(&mut input)?;
-    let mut line = Vec::new(rt.alloc());
-    let mut n = 0usize;
-    for b in input.iter() {
-        if *b == b'\n' {
-            run_line(&rt, n, &line)?;
-            line.clear();
-            n = n.saturating_add(1);
-        } else {
-            line.push(*b)?;
+    for (n, line) in input.split_inclusive(|b| *b == b'\n').enumerate() {
+        // A last line without its newline is not run.
+        if let Some(line) = line.strip_suffix(b"\n") {
+            run_line(&rt, n, line)?;
         }
     }
     Ok(())

@@ -1,29 +1,30 @@
 -- A register is entered.
-use Rattle.std.specs.Prelude.{ℕ, ◌+◌, cond, Some, None, Ok, Err, Option, Result, slice_set}
+use Rattle.std.specs.Prelude.{ℕ, ◌+◌, cond, Ok, Err, Result, slice_set}
+use Rattle.refusal.specs.Causes.{told}
 use Rattle.refusal.specs.declared.Cause as causes
 use Rattle.refusal.specs.declared.Cause.{Cause}
 use Rattle.refusal.specs.declared.Refusal.{Refusal}
 use Rattle.source.specs.Widths.{is_width}
 use Rattle.source.specs.declared.order.Act.{Act}
-use Rattle.source.specs.declared.order.Act.TheVariants.{Declare, Constant, Truth, Apply, Require}
+use Rattle.source.specs.declared.order.Act.TheVariants.{Declare}
 use Rattle.source.specs.declared.order.Sort.TheVariants.{Bits}
 use Rattle.target.specs.Tables.{laid}
 use Rattle.target.specs.declared.assertion.Kind as kinds
 use Rattle.rows.specs.Rows.{register_rows}
 use Rattle.workbook.specs.Pages.{Pages}
-use Rattle.workbook.specs.Room.{short_of, full_for}
+use Rattle.workbook.specs.Room.{long_enough, room_for}
 
 -- what a call answers, and the workbook with its tables after it
 abbrev pub Outcome : Type 0 → Type 0
 Outcome R = Result ℕ Refusal × Pages R
 
 -- the answer to an order: a refusal tells the number `at`, a grant the source row count
-abbrev pub answered : {R : Type 0} → ℕ → Option Cause × Pages R → Outcome R
-answered at o = elim o.0 [ None ↦ (Ok o.1.source_count, o.1) | Some cause ↦ (Err (record { cause = cause; at = at }), o.1) ]
+abbrev pub answered : {R : Type 0} → ℕ → Result (Unit {0}) Cause × Pages R → Outcome R
+answered at o = elim o.0 [ Ok _ ↦ (Ok o.1.source_count, o.1) | Err cause ↦ (Err (told cause at), o.1) ]
 
 -- tables that are too short come before all else, and are told with the source row count
 abbrev pub unless_short : {R : Type 0} → Pages R → Outcome R → Outcome R
-unless_short p go = elim (short_of p) [ None ↦ go | Some cause ↦ (Err (record { cause = cause; at = p.source_count }), p) ]
+unless_short p go = elim (long_enough p) [ Ok _ ↦ go | Err cause ↦ (Err (told cause p.source_count), p) ]
 
 -- `whole` gives the keeper's record of a row of which nothing is known but its width
 module _ {R : Type 0} (whole : ℕ → R) where
@@ -39,21 +40,22 @@ module _ {R : Type 0} (whole : ℕ → R) where
     assertions = slice_set p.assertions p.assertion_count (record { row = p.row_count + 5; source = p.source_count; kind = kinds.TheVariants.Range });
   }
 
-  -- why a register of width k is not entered: first its width, then the room
-  abbrev pub register_cause : Pages R → ℕ → Option Cause
-  register_cause p k = cond (is_width k) (full_for p 6 1) (Some causes.TheVariants.Range)
+  -- whether a register of width k is entered, and if not, why: first its width, then the room
+  abbrev pub register_fits : Pages R → ℕ → Result (Unit {0}) Cause
+  register_fits p k = cond (is_width k) (room_for p 6 1) (Err causes.TheVariants.Range)
 
   -- a register entered, or the cause for which everything is left as it was
-  abbrev pub registered : Pages R → ℕ → Option Cause × Pages R
-  registered p k = elim (register_cause p k) [ None ↦ (None, with_register p k) | Some cause ↦ (Some cause, p) ]
+  abbrev pub registered : Pages R → ℕ → Result (Unit {0}) Cause × Pages R
+  registered p k = elim (register_fits p k) [ Ok _ ↦ (Ok tt, with_register p k) | Err cause ↦ (Err cause, p) ]
 
-  -- one order, where no table is short; only registers are taken yet
+  -- one order, where no table is short; only registers are entered yet
+  abbrev pub tried : Pages R → Act → Result (Unit {0}) Cause × Pages R
+  tried p (Declare k) = registered p k
+  tried p _ = (Err causes.TheVariants.NotYet, p)
+
+  -- the same with its answer; a refusal tells the number `at`
   abbrev pub entered : ℕ → Pages R → Act → Outcome R
-  entered at p (Declare k) = answered at (registered p k)
-  entered at p (Constant k n) = answered at (Some causes.TheVariants.NotYet, p)
-  entered at p (Truth b) = answered at (Some causes.TheVariants.NotYet, p)
-  entered at p (Apply op a b c) = answered at (Some causes.TheVariants.NotYet, p)
-  entered at p (Require row) = answered at (Some causes.TheVariants.NotYet, p)
+  entered at p act = answered at (tried p act)
 
   -- a call of declare: a refusal tells the source row count
   abbrev pub declared : Pages R → ℕ → Outcome R

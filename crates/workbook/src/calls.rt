@@ -1,6 +1,7 @@
 // The calls that add to an open workbook.
 //
-// Each takes the workbook, the keeper and the tables. Granted, it answers the source row count. Refused,
+// Each takes the workbook, the keeper and the tables; the workbook keeps neither, so that it is plain numbers
+// and the caller supplies the slices anew at each call. Granted, it answers the source row count. Refused,
 // it leaves everything as it was: a table shorter than its count comes before all else, then the causes
 // in the order of their numbers. After a granted call every table is as long as its count.
 ghost use Rattle.std.specs.Prelude.{◌≡◌, true, is_ok};
@@ -11,7 +12,7 @@ ghost use Rattle.workbook.specs.Declare.{declared};
 ghost use Rattle.workbook.specs.Feed.{fed};
 
 use crate::book::Open;
-use crate::enter::{enter, enter_all, short};
+use crate::enter::{check_lengths, enter_all};
 use crate::tables::Tables;
 use keeper::keeper::Keeper;
 use refusal::Refusal;
@@ -28,11 +29,11 @@ pub fn declare<K: Keeper>(
     ensures long { is_ok result ≡ true → Long (pages_in book.new t.new) }
     ensures lent { SameTables t.old t.new }
 {
-    let at = book.counts().sources;
-    if let Some(cause) = short(book, t) {
-        return Err(Refusal { cause, at });
-    }
-    enter(book, keeper, t, Act::Declare(bits), at)
+    let order = Order {
+        place: book.counts().sources,
+        act: Act::Declare(bits),
+    };
+    feed(book, keeper, t, &[order])
 }
 
 // Enters the orders of a list in turn and stops at the first that is refused, whose refusal tells its
@@ -47,11 +48,6 @@ pub fn feed<K: Keeper>(
     ensures long { is_ok result ≡ true → Long (pages_in book.new t.new) }
     ensures lent { SameTables t.old t.new }
 {
-    if let Some(cause) = short(book, t) {
-        return Err(Refusal {
-            cause,
-            at: book.counts().sources,
-        });
-    }
+    check_lengths(book, t).map_err(|cause| cause.at(book.counts().sources))?;
     enter_all(book, keeper, t, orders)
 }

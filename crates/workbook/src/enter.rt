@@ -1,8 +1,10 @@
-// How an order is entered: the tests for room, and the writes.
-ghost use Rattle.std.specs.Prelude.{◌≡◌, ℕ, ◌+◌, ◌<◌, ◌≤◌, length, None};
+// How an order is entered: the tests for room, and the writes. The keeper and the tables are parameters beside
+// the workbook, which holds neither. Each says that the tables are the slices that were lent: behind a `&mut` only a clause
+// does.
+ghost use Rattle.std.specs.Prelude.{◌≡◌, ◌≤◌};
 ghost use Rattle.workbook.specs.Pages.{pages_in};
-ghost use Rattle.workbook.specs.Room.{short_of, full_for};
-ghost use Rattle.workbook.specs.Declare.{with_register, registered, entered};
+ghost use Rattle.workbook.specs.Room.{long_enough, room_for};
+ghost use Rattle.workbook.specs.Declare.{with_register, registered, tried};
 ghost use Rattle.workbook.specs.Feed.{entered_all};
 ghost use Rattle.workbook.specs.Held.{SameTables};
 
@@ -22,40 +24,46 @@ const ROWS: usize = 32768;
 
 const ASSERTIONS: usize = 4096;
 
-// Whether a table is shorter than its count, and of which kind.
-pub(crate) fn short<R>(book: &Open, t: &Tables<'_, R>) -> Option<Cause>
-    ensures { result ≡ short_of (pages_in book.now t.now) }
+// Whether every table is as long as its count, and if not, which kind is shorter.
+pub(crate) fn check_lengths<R>(book: &Open, t: &Tables<'_, R>) -> Result<(), Cause>
+    ensures { result ≡ long_enough (pages_in book.now t.now) }
 {
     let counts = book.counts();
     if t.sources.len() < counts.sources || t.records.len() < counts.sources {
-        return Some(Cause::SourcesFull);
+        return Err(Cause::SourcesFull);
     }
     if t.rows.len() < counts.rows || t.assertions.len() < counts.assertions {
-        return Some(Cause::TargetFull);
+        return Err(Cause::TargetFull);
     }
-    None
+    Ok(())
 }
 
-// Whether there is room for one source row with so many target rows and assertions, and if not, where it lacks.
-fn full<R>(book: &Open, t: &Tables<'_, R>, rows: usize, assertions: usize) -> Option<Cause>
+// Whether there is room for one source row with so many target rows and assertions, and if not, which kind is full.
+fn check_room<R>(
+    book: &Open,
+    t: &Tables<'_, R>,
+    rows: usize,
+    assertions: usize,
+) -> Result<(), Cause>
     requires { (rows ≤ 32768) × (assertions ≤ 4096) }
-    ensures { result ≡ full_for (pages_in book.now t.now) rows assertions }
+    ensures { result ≡ room_for (pages_in book.now t.now) rows assertions }
 {
     let counts = book.counts();
     if counts.sources >= t.sources.len().min(t.records.len()).min(SOURCES) {
-        return Some(Cause::SourcesFull);
+        return Err(Cause::SourcesFull);
     }
     if counts.rows + rows > t.rows.len().min(ROWS)
         || counts.assertions + assertions > t.assertions.len().min(ASSERTIONS)
     {
-        return Some(Cause::TargetFull);
+        return Err(Cause::TargetFull);
     }
-    None
+    Ok(())
 }
 
-// Enters a register, for which there is room.
+// Enters a register, for which there is room. Rows are written at the counts, since the tables are slices that the caller
+// supplies.
 fn put_register<K: Keeper>(book: &mut Open, keeper: &K, t: &mut Tables<'_, K::Record>, width: Width)
-    requires { full_for (pages_in book.old t.old) 6 1 ≡ None }
+    requires { room_for (pages_in book.old t.old) 6 1 ≡ Ok tt }
     ensures pages { pages_in book.new t.new ≡ with_register (K.whole keeper.now) (pages_in book.old t.old) width.bits }
     ensures lent { SameTables t.old t.new }
 {
@@ -67,9 +75,9 @@ fn put_register<K: Keeper>(book: &mut Open, keeper: &K, t: &mut Tables<'_, K::Re
         image: counts.rows,
     };
     t.records[counts.sources] = keeper.anything(width);
-    let _ = append_register(t.rows, counts.rows, bits);
+    let row = append_register(t.rows, counts.rows, bits).unwrap();
     t.assertions[counts.assertions] = Assertion {
-        row: counts.rows + 5,
+        row,
         source: counts.sources,
         kind: Kind::Range,
     };
@@ -77,45 +85,36 @@ fn put_register<K: Keeper>(book: &mut Open, keeper: &K, t: &mut Tables<'_, K::Re
 }
 
 // Enters a register, or says why not.
-fn register<K: Keeper>(
+fn enter_register<K: Keeper>(
     book: &mut Open,
     keeper: &K,
     t: &mut Tables<'_, K::Record>,
     bits: u32,
-) -> Option<Cause>
+) -> Result<(), Cause>
     ensures outcome { (result, pages_in book.new t.new) ≡ registered (K.whole keeper.now) (pages_in book.old t.old) bits }
     ensures lent { SameTables t.old t.new }
 {
-    let Some(width) = Width::new(bits) else {
-        return Some(Cause::Range);
-    };
-    if let Some(cause) = full(book, t, 6, 1) {
-        return Some(cause);
-    }
+    let width = Width::new(bits).ok_or(Cause::Range)?;
+    check_room(book, t, 6, 1)?;
     put_register(book, keeper, t, width);
-    None
+    Ok(())
 }
 
-// Enters one order; a refusal tells the number `at`.
-pub(crate) fn enter<K: Keeper>(
+// Enters one order, or says why not.
+fn enter<K: Keeper>(
     book: &mut Open,
     keeper: &K,
     t: &mut Tables<'_, K::Record>,
     act: Act,
-    at: usize,
-) -> Result<usize, Refusal>
-    ensures outcome { (result, pages_in book.new t.new) ≡ entered (K.whole keeper.now) at (pages_in book.old t.old) act }
+) -> Result<(), Cause>
+    ensures outcome { (result, pages_in book.new t.new) ≡ tried (K.whole keeper.now) (pages_in book.old t.old) act }
     ensures lent { SameTables t.old t.new }
 {
-    let cause = match act {
-        Act::Declare(bits) => register(book, keeper, t, bits),
-        Act::Constant(_, _) | Act::Truth(_) | Act::Apply(_, _, _, _) | Act::Require(_) => Some(
+    match act {
+        Act::Declare(bits) => enter_register(book, keeper, t, bits),
+        Act::Constant(_, _) | Act::Truth(_) | Act::Apply(_, _, _, _) | Act::Require(_) => Err(
             Cause::NotYet,
         ),
-    };
-    match cause {
-        Some(cause) => Err(Refusal { cause, at }),
-        None => Ok(book.counts().sources),
     }
 }
 
@@ -130,7 +129,7 @@ pub(crate) fn enter_all<K: Keeper>(
     ensures lent { SameTables t.old t.new }
 {
     for order in orders {
-        enter(book, keeper, t, order.act, order.place)?;
+        enter(book, keeper, t, order.act).map_err(|cause| cause.at(order.place))?;
     }
     Ok(book.counts().sources)
 }

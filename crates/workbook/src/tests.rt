@@ -1,6 +1,7 @@
 // The calls on small tables: the example's rows, and every cause with its number.
 use crate::book::Open;
 use crate::calls::{declare, feed};
+use crate::counts::Counts;
 use crate::tables::Tables;
 use keeper::interval::Interval;
 use keeper::plain::{Plain, PlainRecord};
@@ -33,16 +34,13 @@ fn declares_four_bits(rt: HostRuntime) {
     let mut rows = [Row::Truth(false); 8];
     let mut assertions = [ASSERTION; 2];
     let mut book = Open::begin();
-    let answer = {
-        let mut t = Tables {
-            sources: &mut sources,
-            records: &mut records,
-            rows: &mut rows,
-            assertions: &mut assertions,
-        };
-        declare(&mut book, &Plain, &mut t, 4)
+    let mut t = Tables {
+        sources: &mut sources,
+        records: &mut records,
+        rows: &mut rows,
+        assertions: &mut assertions,
     };
-    assert_eq!(rt; answer, Ok(1));
+    assert_eq!(rt; declare(&mut book, &Plain, &mut t, 4), Ok(1));
     assert_eq!(rt;
         rows,
         [
@@ -78,7 +76,7 @@ fn declares_four_bits(rt: HostRuntime) {
             SOURCE
         ]
     );
-    assert!(rt; records[0].width == 4 && records[1].width == 0);
+    assert_eq!(rt; records, [PlainRecord { width: 4 }, RECORD]);
 }
 
 // Declares `bits` after 4 bits, on tables of these lengths.
@@ -94,15 +92,13 @@ fn second(
     let mut row_table = [Row::Truth(false); 16];
     let mut assertion_table = [ASSERTION; 4];
     let mut book = Open::begin();
-    {
-        let mut t = Tables {
-            sources: &mut source_table,
-            records: &mut record_table,
-            rows: &mut row_table,
-            assertions: &mut assertion_table,
-        };
-        let _ = declare(&mut book, &Plain, &mut t, 4);
-    }
+    let mut all = Tables {
+        sources: &mut source_table,
+        records: &mut record_table,
+        rows: &mut row_table,
+        assertions: &mut assertion_table,
+    };
+    let _ = declare(&mut book, &Plain, &mut all, 4);
     let mut t = Tables {
         sources: &mut source_table[0..sources.min(4)],
         records: &mut record_table[0..records.min(4)],
@@ -112,27 +108,23 @@ fn second(
     declare(&mut book, &Plain, &mut t, bits)
 }
 
-fn refused(cause: Cause) -> Result<usize, Refusal> {
-    Err(Refusal { cause, at: 1 })
-}
-
 #[test]
 fn refuses_a_second(rt: HostRuntime) {
     assert_eq!(rt; second(2, 2, 12, 2, 32), Ok(2));
-    assert_eq!(rt; second(2, 2, 12, 2, 0), refused(Cause::Range));
-    assert_eq!(rt; second(1, 1, 6, 1, 33), refused(Cause::Range));
-    assert_eq!(rt; second(1, 2, 11, 1, 8), refused(Cause::SourcesFull));
-    assert_eq!(rt; second(2, 1, 12, 2, 8), refused(Cause::SourcesFull));
-    assert_eq!(rt; second(2, 2, 11, 2, 8), refused(Cause::TargetFull));
+    assert_eq!(rt; second(2, 2, 12, 2, 0), Err(Cause::Range.at(1)));
+    assert_eq!(rt; second(1, 1, 6, 1, 33), Err(Cause::Range.at(1)));
+    assert_eq!(rt; second(1, 2, 11, 1, 8), Err(Cause::SourcesFull.at(1)));
+    assert_eq!(rt; second(2, 1, 12, 2, 8), Err(Cause::SourcesFull.at(1)));
+    assert_eq!(rt; second(2, 2, 11, 2, 8), Err(Cause::TargetFull.at(1)));
     assert_eq!(rt;
         second(2, 2, 12, 1, 8),
-        refused(Cause::TargetFull),
+        Err(Cause::TargetFull.at(1)),
         "short tables come before a bad width"
     );
-    assert_eq!(rt; second(0, 2, 12, 2, 0), refused(Cause::SourcesFull));
-    assert_eq!(rt; second(2, 0, 5, 2, 0), refused(Cause::SourcesFull));
-    assert_eq!(rt; second(2, 2, 5, 2, 0), refused(Cause::TargetFull));
-    assert_eq!(rt; second(2, 2, 12, 0, 99), refused(Cause::TargetFull));
+    assert_eq!(rt; second(0, 2, 12, 2, 0), Err(Cause::SourcesFull.at(1)));
+    assert_eq!(rt; second(2, 0, 5, 2, 0), Err(Cause::SourcesFull.at(1)));
+    assert_eq!(rt; second(2, 2, 5, 2, 0), Err(Cause::TargetFull.at(1)));
+    assert_eq!(rt; second(2, 2, 12, 0, 99), Err(Cause::TargetFull.at(1)));
 }
 
 // A feed stops at the first refusal, and the orders before it stay.
@@ -147,20 +139,10 @@ fn feeds_up_to_a_refusal(rt: HostRuntime) {
     let mut rows = [Row::Truth(false); 18];
     let mut assertions = [ASSERTION; 3];
     let mut book = Open::begin();
-    let orders = [
-        Order {
-            place: 10,
-            act: Act::Declare(1),
-        },
-        Order {
-            place: 20,
-            act: Act::Declare(33),
-        },
-        Order {
-            place: 30,
-            act: Act::Declare(2),
-        },
-    ];
+    let orders = [(10, 1), (20, 33), (30, 2)].map(|(place, bits)| Order {
+        place,
+        act: Act::Declare(bits),
+    });
     let mut t = Tables {
         sources: &mut sources,
         records: &mut records,
@@ -169,20 +151,24 @@ fn feeds_up_to_a_refusal(rt: HostRuntime) {
     };
     assert_eq!(rt;
         feed(&mut book, &Interval, &mut t, &orders),
-        Err(Refusal {
-            cause: Cause::Range,
-            at: 20
-        })
+        Err(Cause::Range.at(20))
     );
-    assert!(rt;
-        book.counts().sources == 1 && book.counts().rows == 6 && book.counts().assertions == 1
+    assert_eq!(rt;
+        book.counts(),
+        Counts {
+            sources: 1,
+            rows: 6,
+            assertions: 1
+        }
     );
     assert_eq!(rt; feed(&mut book, &Interval, &mut t, &orders[2..3]), Ok(2));
-    let sealed = book.seal();
-    assert!(rt;
-        sealed.counts().sources == 2
-            && sealed.counts().rows == 12
-            && sealed.counts().assertions == 2
+    assert_eq!(rt;
+        book.seal().counts(),
+        Counts {
+            sources: 2,
+            rows: 12,
+            assertions: 2
+        }
     );
 }
 
@@ -205,10 +191,7 @@ fn stops_at_the_limit(rt: HostRuntime) -> Result<(), Fail> {
     }
     assert_eq!(rt;
         declare(&mut book, &Plain, &mut t, 32),
-        Err(Refusal {
-            cause: Cause::SourcesFull,
-            at: 1024
-        })
+        Err(Cause::SourcesFull.at(1024))
     );
     Ok(())
 }

@@ -5,6 +5,6 @@ use Rattle.scheme.proofs.turns.put_turns.Given as goal
 
 abbrev pub invariant-loop-i : goal.invariant-loop-i
 invariant-loop-i g l =
-    (l.rows ≡ laid l.initial.rows l.at (turns (g.T.Turn.block l.turn) l.first l.at l.i))
-    × (l.former ≡ last_of l.first l.at (turns (g.T.Turn.block l.turn) l.first l.at l.i))
-    × (l.next ≡ l.at + length (turns (g.T.Turn.block l.turn) l.first l.at l.i))
+    (l.rows ≡ laid l.initial.rows l.at (turns (g.T.Turn.block l.base) l.first l.at l.i))
+    × (l.former ≡ last_of l.first l.at (turns (g.T.Turn.block l.base) l.first l.at l.i))
+    × (l.next ≡ l.at + length (turns (g.T.Turn.block l.base) l.first l.at l.i))

@@ -1,40 +1,34 @@
-use Rattle.std.proofs.Common.{sym, ap, ◌∙◌, arith, rules}
+use Rattle.std.proofs.Common.{◌+◌, ◌≤◌, length, ap, ◌∙◌, sym, arith, rules}
 use Rattle.std.proofs.lemmas.Result.{IfOk-weaker}
 use Rattle.script.specs.Tokens.{refused}
-use Rattle.script.proofs.Lexing.{at_end, at_open, at_close, at_other, at_atom}
+use Rattle.script.proofs.Lexing.{run_is, run_inside, at_end, at_open, at_close, at_other, at_atom}
 use Rattle.script.proofs.lexer.next.Goals as goal
 
-pub returns-then-place-script : goal.returns-then-place-script
-returns-then-place-script c = record {
-  value = at_end c.args.script.now c.args.from _ c.skip-place.ensures.value (omega arith);
-  bound = search rules;
-  number = tt;
-}
+pub returns-then-place-script-clause-value : goal.returns-then-place-script-clause-value
+returns-then-place-script-clause-value c = rw c.new.ensures (at_end c.args.script.now c.args.from _ c.skip-place.ensures.value (omega arith))
 
-pub returns-then-b-eq40 : goal.returns-then-b-eq40
-returns-then-b-eq40 c = record {
-  value = at_open c.args.script.now c.args.from _ c.skip-place.ensures.value (omega arith) c.if-b-eq40.true;
-  bound = search rules;
-  number = tt;
-}
+pub returns-in-40-clause-value : goal.returns-in-40-clause-value
+returns-in-40-clause-value c = rw c.new-in-40.ensures (at_open c.args.script.now c.args.from _ c.skip-place.ensures.value (omega arith) c.in-40.is)
 
-pub returns-then-b-eq41 : goal.returns-then-b-eq41
-returns-then-b-eq41 c = record {
-  value = at_close c.args.script.now c.args.from _ c.skip-place.ensures.value (omega arith) c.if-b-eq41.true;
-  bound = search rules;
-  number = tt;
-}
+pub returns-in-41-clause-value : goal.returns-in-41-clause-value
+returns-in-41-clause-value c = rw c.new-in-41.ensures (at_close c.args.script.now c.args.from _ c.skip-place.ensures.value (omega arith) c.in-41.is)
 
-pub returns-then-not-in_class : goal.returns-then-not-in_class
-returns-then-not-in_class c = record {
-  value = ap refused c.off_grammar.ensures ∙ at_other c.args.script.now c.args.from _ c.skip-place.ensures.value (omega arith) c.if-b-eq40.false c.if-b-eq41.false (sym c.if-not-in_class.ensures);
-  bound = tt;
-  number = tt;
-}
+pub overflow_add-after : goal.overflow_add-after
+overflow_add-after c = omega (arith, run_inside c.args.script.now c.skip-place.result c.run.result (omega arith) c.run.ensures, c.skip-place.ensures.bound)
 
-pub returns : goal.returns
-returns c = record {
-  value = c.atom.ensures.value ∙ at_atom c.args.script.now c.args.from _ c.skip-place.ensures.value (omega arith) c.if-b-eq40.false c.if-b-eq41.false _ c.run_end-after.ensures.value (sym c.if-not-in_class.ensures);
-  bound = IfOk-weaker c.atom.result _ _ (λ l e. record { begins = omega (arith, e.0, c.skip-place.ensures.value); ends = omega (arith, e.0, e.1, c.run_end-after.ensures.value); inside = omega (arith, e.1, c.run_end-after.ensures.bound, c.skip-place.ensures.bound) }) c.atom.ensures.bound;
-  number = c.atom.ensures.number;
-}
+pub slice_bounds-atom-end : goal.slice_bounds-atom-end
+slice_bounds-atom-end c = let h : c.skip-place.result + c.run.result ≤ length c.args.script.now = run_inside c.args.script.now c.skip-place.result c.run.result (omega arith) c.run.ensures in search rules
+
+pub returns-in_default-clause-value : goal.returns-in_default-clause-value
+returns-in_default-clause-value c =
+    let e = run_is c.args.script.now c.skip-place.result c.run.result (omega arith) c.run.ensures in
+    c.atom.ensures.value ∙ at_atom c.args.script.now c.args.from _ c.skip-place.ensures.value (omega arith) (λ e. search rules) (λ e. search rules) _ e (sym c.if-has.ensures)
+
+pub returns-in_default-clause-bound : goal.returns-in_default-clause-bound
+returns-in_default-clause-bound c =
+    let h = run_inside c.args.script.now c.skip-place.result c.run.result (omega arith) c.run.ensures in
+    IfOk-weaker c.atom.result _ _ (λ l e. rw e (record { begins = omega arith; ends = omega arith; inside = omega arith })) c.atom.ensures.bound
+
+pub returns-in_default-2-clause-value : goal.returns-in_default-2-clause-value
+returns-in_default-2-clause-value c =
+    ap refused c.at.ensures ∙ at_other c.args.script.now c.args.from _ c.skip-place.ensures.value (omega arith) (λ e. search rules) (λ e. search rules) (sym c.if-has.ensures)

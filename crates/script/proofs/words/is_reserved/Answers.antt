@@ -1,17 +1,17 @@
-use Rattle.std.proofs.Common.{sym, ap, ◌∙◌, arith}
+use Rattle.std.proofs.Common.{rules, tests}
 use Rattle.std.specs.Str.{bytes_eq}
-use Rattle.std.proofs.lemmas.List.{at_drop_all}
-use Rattle.script.specs.Words.{reserved_words, among}
-use Rattle.script.proofs.Tables.{among_here, among_later}
+use Rattle.std.proofs.lemmas.Iterator.{YieldsList-from_slice}
+use Rattle.std.proofs.lemmas.Iterator.Search.{any_from_yields_List}
+use Rattle.script.proofs.Tables.{operator_first, word_then}
 use Rattle.script.proofs.words.is_reserved.Goals as goal
 
-pub returns-then-same : goal.returns-then-same
-returns-then-same c =
-    sym (among_here reserved_words c.args.text.now c.loop-i.i (omega arith) (ap (λ w. bytes_eq w c.args.text.now) (sym c.reserved_word.ensures) ∙ sym c.if-same.ensures)) ∙ c.loop-i.invariant
+pub returns-then-any : goal.returns-then-any
+returns-then-any c =
+    operator_first c.args.text.now _ c.if-any.true
+    (any_from_yields_List (λ o. bytes_eq o.name.now c.args.text.now) _ _ c.any.result c.any.ensures.ran (YieldsList-from_slice _ c.iter.ensures.rest) (λ x b q k. search (rules, tests)))
 
-pub loop-i-preserved : goal.loop-i-preserved
-loop-i-preserved c =
-    sym (among_later reserved_words c.args.text.now c.loop-i.i (omega arith) (ap (λ w. bytes_eq w c.args.text.now) (sym c.reserved_word.ensures) ∙ sym c.if-same.ensures)) ∙ c.loop-i.invariant
-
-pub returns : goal.returns
-returns c = sym (at_drop_all (λ words. among words c.args.text.now) reserved_words c.loop-i.i (omega arith)) ∙ c.loop-i.invariant
+pub returns-else-any : goal.returns-else-any
+returns-else-any c =
+    word_then c.args.text.now _ _ c.if-any.false
+    (any_from_yields_List (λ o. bytes_eq o.name.now c.args.text.now) _ _ c.any.result c.any.ensures.ran (YieldsList-from_slice _ c.iter.ensures.rest) (λ x b q k. search (rules, tests)))
+    (any_from_yields_List (λ w. bytes_eq w.now c.args.text.now) _ _ c.any-else-any.result c.any-else-any.ensures.ran (YieldsList-from_slice _ c.iter-else-any.ensures.rest) (λ x b q k. search (rules, tests)))

@@ -1,4 +1,4 @@
-use Rattle.std.proofs.Common.{◌≡◌, false, ◌++◌, sym, ap, ◌∙◌, arith, length}
+use Rattle.std.proofs.Common.{◌≡◌, None, ◌++◌, sym, ap, ◌∙◌, arith, length}
 use Rattle.std.proofs.lemmas.List.{at_drop_all}
 use Rattle.std.proofs.lemmas.Result.{IfOk-equal}
 use Rattle.vectors.specs.Pieces.{script_of}
@@ -12,5 +12,5 @@ returns-clause-decodes c pieces are spelled =
     let start : c.len.result ≡ length before = omega (arith, c.args.script.now.ok.0) in
     let read : with_copies (state c.loop-b.reading c.loop-b.script.items) ≡ before ++ script_of pieces =
     ap with_copies (sym (at_drop_all (run (state c.loop-b.reading c.loop-b.script.items)) c.args.line.now c.loop-b.b-index (omega arith)) ∙ c.loop-b.invariant.reads
-    ∙ ap (λ n. run (reading_at n 1 false before) c.args.line.now) start ∙ ap (run (fresh before)) spelled) ∙ line_read pieces before are in
+    ∙ ap (λ n. run (reading_at n None before) c.args.line.now) start ∙ ap (run (fresh before)) spelled) ∙ line_read pieces before are in
     IfOk-equal c.repeat.result c.repeat.new.script.items (with_copies (state c.loop-b.reading c.loop-b.script.items)) (before ++ script_of pieces) c.repeat.ensures.repeats read

@@ -1,7 +1,0 @@
-use Rattle.scheme.specs.SumRows.{sum_size, sum_rows}
-use Rattle.scheme_tests.proofs.Rowed.{rowed}
-use Rattle.scheme_tests.proofs.listed.sum_listed.Goals as goal
-
-pub returns-clause-lists : goal.returns-clause-lists
-returns-clause-lists c =
-    rowed sum_size sum_rows c.args.rows.now c.state.new.rows c.args.count c.args.k c.args.a c.args.b c.args.c c.state.result c.state.ensures

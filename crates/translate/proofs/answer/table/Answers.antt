@@ -1,6 +1,0 @@
-use Rattle.std.proofs.Common.{rules}
-use Rattle.std.proofs.lemmas.List.{replicate_more}
-use Rattle.translate.proofs.answer.table.Goals as goal
-
-pub loop-i-preserved : goal.loop-i-preserved
-loop-i-preserved g c = let e = replicate_more c.loop-i.i c.args.x in search rules
