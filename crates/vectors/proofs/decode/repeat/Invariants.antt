@@ -1,9 +1,0 @@
-use Rattle.std.proofs.Common.{◌≡◌, ◌-◌, ◌≤◌, ◌++◌, drop, replicate}
-use Rattle.std.specs.List.{concat}
-use Rattle.vectors.proofs.decode.repeat.Given as goal
-
-abbrev pub invariant-loop : goal.invariant-loop
-invariant-loop l = record {
-  in_range : l.counter - 1 ≤ l.times - 1;
-  copies : l.script.items ≡ l.initial.script.items ++ concat (replicate (l.counter - 1) (drop l.start l.initial.script.items));
-}
