@@ -1,6 +1,7 @@
 -- What reading a script gives.
 use Rattle.std.specs.Prelude.{ℕ, zero, suc, ◌-◌, min, cond, ◌||◌, List, [], ◌∷◌, ◌++◌, map, length, take, drop, replicate, Ok, Err, codes, Result, nat_le, nat_lt}
 use Rattle.refusal.specs.declared.Cause as causes
+use Rattle.refusal.specs.Causes.{told}
 use Rattle.refusal.specs.declared.Refusal.{Refusal}
 use Rattle.source.specs.declared.order.Act as acts
 use Rattle.source.specs.declared.order.Order.{Order}
@@ -31,10 +32,10 @@ declared read place d = record {
 }
 
 abbrev pub full : ℕ → Refusal
-full place = record { cause = causes.TheVariants.Capacity; at = place }
+full place = told causes.TheVariants.Capacity place
 
 abbrev pub bad_name : ℕ → Refusal
-bad_name place = record { cause = causes.TheVariants.Name; at = place }
+bad_name place = told causes.TheVariants.Name place
 
 -- a name at a span, unless it is reserved or repeated or there is no room for it; `taken` are the names so far
 abbrev pub take_name : List (List ℕ) → ℕ → List ℕ → Span → Result Span Refusal

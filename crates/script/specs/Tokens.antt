@@ -2,6 +2,7 @@
 use Rattle.std.specs.Prelude.{ℕ, ◌+◌, ◌-◌, ◌*◌, ◌^◌, Bool, false, cond, not, ◌&&◌, ◌||◌, List, [], ◌∷◌, length, take, drop, Ok, Err, Result, ◌==◌, nat_lt, slice_index}
 use Rattle.std.specs.List.{prefix_len}
 use Rattle.refusal.specs.declared.Cause.TheVariants.{Grammar}
+use Rattle.refusal.specs.Causes.{told}
 use Rattle.refusal.specs.declared.Refusal.{Refusal}
 use Rattle.script.specs.declared.token.Class.{Class}
 use Rattle.script.specs.declared.token.Class.TheVariants.{Atom, Digit, Bit, HexDigit}
@@ -27,7 +28,7 @@ pub data Lexing : Type 0 where
 
 -- text off the grammar, told at a place
 abbrev pub off_grammar : ℕ → Refusal
-off_grammar place = record { cause = Grammar; at = place }
+off_grammar place = told Grammar place
 
 -- bytes that are no token
 abbrev pub malformed : ℕ → Lexing

@@ -1,6 +1,7 @@
 -- What `line` and `write_text` answer.
 use Rattle.std.specs.Prelude.{◌≡◌, ℕ, ◌+◌, Bool, true, false, cond, ◌||◌, List, ◌++◌, length, take, drop, Ok, Err, Result, nat_le, nat_lt}
 use Rattle.refusal.specs.declared.Cause as cause
+use Rattle.refusal.specs.Causes.{told}
 use Rattle.refusal.specs.declared.Refusal.{Refusal}
 use Rattle.target.specs.declared.row.Row.{Row}
 use Rattle.target.specs.declared.assertion.Assertion.{Assertion}
@@ -29,7 +30,7 @@ short counts rows assertions = nat_lt (length rows) counts.rows || nat_lt (lengt
 
 -- the one refusal of both calls
 abbrev pub the_refusal : Counts → Refusal
-the_refusal counts = record { cause = cause.TheVariants.Line; at = count_of counts }
+the_refusal counts = told cause.TheVariants.Line (count_of counts)
 
 -- both calls go on with the counted part of the tables, or refuse a short one
 abbrev pub counted_or_refused : Counts → List Row → List Assertion → Result Target Refusal → Type 0
