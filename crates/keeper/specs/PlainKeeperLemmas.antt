@@ -6,7 +6,7 @@ use Rattle.source.specs.declared.operator.Operator.{Operator}
 use Rattle.source.specs.declared.value.Value.{Value}
 use Rattle.keeper.specs.Results.{value_known}
 
-capped : (k : ℕ) → 2 ^ min k 64 ≤ 2 ^ k
+pub capped : (k : ℕ) → 2 ^ min k 64 ≤ 2 ^ k
 capped k = let h : min k 64 ≤ k = omega arith in pow_mono h
 
 pub below_width : (k n : ℕ) → n < 2 ^ min k 64 → n < 2 ^ k

@@ -6,7 +6,7 @@ use Rattle.source.specs.declared.operator.Operator.{Operator}
 use Rattle.rows.specs.declared.operands.Operands.{Operands}
 use Rattle.rows.specs.Limits.{usable}
 
-is_width_lem : (k : ℕ) → is_width k ≡ true → (1 ≤ k) × (k ≤ 32)
+pub is_width_lem : (k : ℕ) → is_width k ≡ true → (1 ≤ k) × (k ≤ 32)
 is_width_lem k e = let p = and_parts (leb 1 k) (leb k 32) e in (leb-true 1 k p.0, leb-true k 32 p.1)
 
 pub usable_width : (op : Operator) (o : Operands) → usable op o ≡ true → (1 ≤ o.k) × (o.k ≤ 32)

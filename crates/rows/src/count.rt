@@ -62,10 +62,11 @@ pub fn row_count(op: Operator, o: Operands, size: usize) -> Option<usize>
     ensures count { result ≡ (if usable op o && nat_le size 32768 then Some (row_count op o size) else None) }
     ensures length { (at : ℕ) (new : List Row) → RowsCounted op o at new }
 {
-    let own = Application::new(op, o)?.count();
+    let order = Application::new(op, o)?;
     if size > 32768 {
-        return None;
+        return None; // before the rows of a shift are counted one by one
     }
+    let own = order.count();
     Some(if has_and(op) { 6 + size + own } else { own })
 }
 

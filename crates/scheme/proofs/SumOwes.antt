@@ -25,13 +25,13 @@ module _ (base : Base) (i total at : ℕ) where
   abbrev sums : List Row
   sums = Times at (at + 8) ∷ Add total (at + 9) ∷ []
 
-  turn_sound : (s : ℕ → Sort) → Ground s at base → Takes s at sort.Int total → Each (HasSort s) at (sum_turn base i total at) → Each (RowSound s) at (sum_turn base i total at)
+  pub turn_sound : (s : ℕ → Sort) → Ground s at base → Takes s at sort.Int total → Each (HasSort s) at (sum_turn base i total at) → Each (RowSound s) at (sum_turn base i total at)
   turn_sound s g ht h =
       bits_sound base i at (at + 5) (at + 9) [] sums (omega arith) (omega arith) s g h (λ j lt. absurd (omega arith))
       (all_each (RowSound s) (at + 9) sums
       (((omega arith, h 0 (lit< tt)), (omega arith, h 8 (lit< tt))), (((omega (arith, ht.0), ht.1), (omega arith, h 9 (lit< tt))), tt)))
 
-  turn_value : (reading : Reading) (numbers : ℕ → ℤ) (vs : List Val) (x y z t : ℕ) → Known vs base x y z → value_at vs total ≡ int (pos t) →
+  pub turn_value : (reading : Reading) (numbers : ℕ → ℤ) (vs : List Val) (x y z t : ℕ) → Known vs base x y z → value_at vs total ≡ int (pos t) →
       Each (Obeys reading numbers vs) at (sum_turn base i total at) →
       value_at vs (at + 10) ≡ int (pos (t + 2 ^ i * min (x / 2 ^ i % 2) (y / 2 ^ i % 2)))
   unfolding row_value

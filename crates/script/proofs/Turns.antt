@@ -94,7 +94,7 @@ order_of place d = record { place = place; act = acts.TheVariants.Declare d.widt
 abbrev pub name_of : ℕ → Declaration → Name
 name_of row d = record { place = d.name.place; after = d.name.after; row = row }
 
-entered : (orders : List Order) (count : ℕ) (names : List Name) (named place : ℕ) (d : Declaration) → count < length orders → named < length names
+pub entered : (orders : List Order) (count : ℕ) (names : List Name) (named place : ℕ) (d : Declaration) → count < length orders → named < length names
     → declared (read_in orders count names named) place d ≡ read_in (set orders count (order_of place d)) (count + 1) (set names named (name_of count d)) (named + 1)
 entered orders count names named place d h l =
     let c : count ≤ length orders = omega arith in

@@ -6,7 +6,7 @@ use Rattle.script.specs.Tokens.{value_after, value_of}
 use Rattle.script.specs.Found.{number_of}
 
 -- more digits never make a number smaller
-grows : (n : ℕ) (ds : List ℕ) → n ≤ value_after n ds
+pub grows : (n : ℕ) (ds : List ℕ) → n ≤ value_after n ds
 grows n [] = le_refl n
 grows n (d ∷ ds) = omega (arith, grows (n * 10 + (d - 48)) ds)
 

@@ -10,20 +10,22 @@ use target::row::Row;
 impl Draft {
     // Puts an operation on rows, as `(+ t3 t5)`.
     #[tactic(auto, using(crate::proofs::Pieces::operands))]
-    fn call(self, op: &str, operands: &[usize]) -> Draft
-        ensures { result ≡ kept (self ++ call_text op.now operands.now) }
+    fn call(&mut self, op: &str, operands: &[usize])
+        ensures { self.new ≡ kept (self.old ++ call_text op.now operands.now) }
     {
-        let mut draft = self.text("(").text(op);
+        self.text("(");
+        self.text(op);
         for row in operands {
-            draft = draft.text(" t").number(*row);
+            self.text(" t");
+            self.number(*row);
         }
-        draft.text(")")
+        self.text(")");
     }
 
     // Puts what a row is defined as, which 80 bytes hold.
     #[tactic(auto, using(crate::proofs::Pieces::pieces))]
-    pub(crate) fn body(self, row: Row) -> Draft
-        ensures bytes { result ≡ kept (self ++ body_of row) }
+    pub(crate) fn body(&mut self, row: Row)
+        ensures bytes { self.new ≡ kept (self.old ++ body_of row) }
         ensures most { length (body_of row) ≤ 80 }
     {
         match row {

@@ -43,22 +43,42 @@ impl Draft {
         &self.bytes[..self.len]
     }
 
-    // Puts a text behind what there is.
-    pub(crate) fn text(self, text: &str) -> Draft
-        ensures { result ≡ kept (self ++ text.now) }
+    // Forgets what was put so far.
+    pub(crate) fn clear(&mut self)
+        ensures { self.new ≡ [] }
     {
-        let Draft { mut bytes, len } = self;
-        let count = text.len().min(128 - len);
-        let end = len + count;
-        bytes[len..end].copy_from_slice(&text.as_bytes()[..count]);
-        Draft { bytes, len: end }
+        self.len = 0;
+    }
+
+    // Puts a text behind what there is. (One copy for what fits, so that LLVM knows its length: most texts are literals.)
+    #[inline]
+    pub(crate) fn text(&mut self, text: &str)
+        ensures { self.new ≡ kept (self.old ++ text.now) }
+    {
+        let end = self.len + text.len();
+        if end <= 128 {
+            self.bytes[self.len..end].copy_from_slice(text.as_bytes());
+            self.len = end;
+        } else {
+            self.fill(text);
+        }
+    }
+
+    // Puts as much of a text as there is room for.
+    fn fill(&mut self, text: &str)
+        ensures { self.new ≡ kept (self.old ++ text.now) }
+    {
+        let count = text.len().min(128 - self.len);
+        let end = self.len + count;
+        self.bytes[self.len..end].copy_from_slice(&text.as_bytes()[..count]);
+        self.len = end;
     }
 
     // Puts a number in decimal.
     #[tactic(auto, using(crate::proofs::Numerals::numeral_decimal))]
-    pub(crate) fn number(self, n: usize) -> Draft
-        ensures { result ≡ kept (self ++ numeral n) }
+    pub(crate) fn number(&mut self, n: usize)
+        ensures { self.new ≡ kept (self.old ++ numeral n) }
     {
-        self.text(itoa::Buffer::new().format(n))
+        self.text(itoa::Buffer::new().format(n));
     }
 }

@@ -4,7 +4,8 @@ ghost use Rattle.text.specs.Outcome.{rows_of, asserted_of, count_of, line_answer
 ghost use Rattle.text.specs.Room.{Limited};
 
 use crate::counted::{counted, no_line};
-use crate::lines::line_at;
+use crate::draft::Draft;
+use crate::lines::draw;
 use refusal::Refusal;
 use target::table::Target;
 use workbook::book::Sealed;
@@ -26,7 +27,8 @@ pub fn line(
 {
     let counts = book.counts();
     let refused = no_line(counts);
-    let line = line_at(counted(counts, target)?, n).ok_or(refused)?;
+    let mut line = Draft::new();
+    draw(&mut line, counted(counts, target)?, n).ok_or(refused)?;
     let bytes = line.bytes();
     if buffer.len() < 64 || buffer.len() < bytes.len() {
         return Err(refused);

@@ -1,6 +1,6 @@
-// The lines of the text. Each has a definition of its own; what they share is the draft. (No `write!`: draft.rt says
-// why.)
-ghost use Rattle.std.specs.Prelude.{◌≡◌, Some, None, if◌then◌else◌, nat_lt};
+// The lines of the text. Each has a definition of its own; what they share is the draft, one for all lines of a text. (No
+// `write!`: draft.rt says why.)
+ghost use Rattle.std.specs.Prelude.{◌≡◌, true, Some, None, is_some, if◌then◌else◌, nat_lt};
 ghost use Rattle.text.specs.Lines.{declared_line, defined_line, assert_line, named_by, line_of, line_count};
 
 use crate::draft::Draft;
@@ -8,59 +8,68 @@ use target::row::{Row, Sort};
 use target::table::Target;
 
 #[tactic(auto, using(crate::proofs::Pieces::pieces))]
-fn declared(i: usize) -> Draft
-    ensures { result ≡ declared_line i }
+fn declare(draft: &mut Draft, i: usize)
+    ensures { draft.new ≡ declared_line i }
 {
-    Draft::new()
-        .text("(declare-fun t")
-        .number(i)
-        .text(" () Int)\n")
+    draft.clear();
+    draft.text("(declare-fun t");
+    draft.number(i);
+    draft.text(" () Int)\n");
 }
 
 #[tactic(auto, using(crate::proofs::Pieces::pieces))]
-fn defined(i: usize, row: Row) -> Draft
-    ensures { result ≡ defined_line i row }
+fn define(draft: &mut Draft, i: usize, row: Row)
+    ensures { draft.new ≡ defined_line i row }
 {
-    let sort = match row.sort() {
-        Sort::Int => " () Int ",
-        Sort::Bool => " () Bool ",
-    };
-    Draft::new()
-        .text("(define-fun t")
-        .number(i)
-        .text(sort)
-        .body(row)
-        .text(")\n")
+    draft.clear();
+    draft.text("(define-fun t");
+    draft.number(i);
+    match row.sort() {
+        Sort::Int => draft.text(" () Int "),
+        Sort::Bool => draft.text(" () Bool "),
+    }
+    draft.body(row);
+    draft.text(")\n");
 }
 
 #[tactic(auto, using(crate::proofs::Pieces::pieces))]
-fn asserted(row: usize) -> Draft
-    ensures { result ≡ assert_line row }
+fn assert(draft: &mut Draft, row: usize)
+    ensures { draft.new ≡ assert_line row }
 {
-    Draft::new().text("(assert t").number(row).text(")\n")
+    draft.clear();
+    draft.text("(assert t");
+    draft.number(row);
+    draft.text(")\n");
 }
 
-// Line `n` of the text of these rows and assertions, where there is one.
+// Makes the draft line `n` of the text of these rows and assertions, where there is one.
 #[tactic(auto, using(crate::proofs::Places::places))]
-pub(crate) fn line_at(target: Target<'_>, n: usize) -> Option<Draft>
-    ensures { result ≡ (if nat_lt n (line_count target.entry.rows.now (named_by target.entry.assertions.now)) then Some (line_of target.entry.rows.now (named_by target.entry.assertions.now) n) else None) }
+pub(crate) fn draw(draft: &mut Draft, target: Target<'_>, n: usize) -> Option<()>
+    ensures any { result ≡ (if nat_lt n (line_count target.entry.rows.now (named_by target.entry.assertions.now)) then Some tt else None) }
+    ensures line { is_some result ≡ true → draft.new ≡ line_of target.entry.rows.now (named_by target.entry.assertions.now) n }
 {
     let Target { rows, assertions } = target;
     let Some(i) = n.checked_sub(1) else {
-        return Some(Draft::new().text("(set-logic QF_NIA)\n"));
+        draft.clear();
+        draft.text("(set-logic QF_NIA)\n");
+        return Some(());
     };
     if let Some(row) = rows.get(i) {
-        return Some(match *row {
-            Row::Unknown => declared(i),
-            row => defined(i, row),
-        });
+        match *row {
+            Row::Unknown => declare(draft, i),
+            row => define(draft, i, row),
+        }
+        return Some(());
     }
     let j = i - rows.len();
     if let Some(assertion) = assertions.get(j) {
-        return Some(asserted(assertion.row));
+        assert(draft, assertion.row);
+        return Some(());
     }
     if j == assertions.len() {
-        return Some(Draft::new().text("(check-sat)\n"));
+        draft.clear();
+        draft.text("(check-sat)\n");
+        return Some(());
     }
     None
 }

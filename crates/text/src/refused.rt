@@ -8,18 +8,18 @@ use refusal::Refusal;
 use std::alloc::AllocError;
 
 #[tactic(auto, using(crate::proofs::Pieces::pieces))]
-fn refused(refusal: Refusal) -> Draft
-    ensures { result ≡ refusal_line refusal }
+fn refuse(draft: &mut Draft, refusal: Refusal)
+    ensures { draft.new ≡ refusal_line refusal }
 {
     let number = u8::from(refusal.cause);
-    Draft::new()
-        .text("refused ")
-        .number(usize::from(number))
-        .text(" at ")
-        .number(refusal.at)
-        .text(" in ")
-        .text(refusal.cause.layer().word())
-        .text("\n")
+    draft.clear();
+    draft.text("refused ");
+    draft.number(usize::from(number));
+    draft.text(" at ");
+    draft.number(refusal.at);
+    draft.text(" in ");
+    draft.text(refusal.cause.layer().word());
+    draft.text("\n");
 }
 
 // Appends the refusal's line to `out`, which is as it was where memory runs out.
@@ -27,5 +27,7 @@ pub fn write_refusal(refusal: Refusal, out: &mut Vec<u8>) -> Result<(), AllocErr
     ensures outcome { out.new.items ≡ (if is_ok result then out.old.items ++ refusal_line refusal else out.old.items) }
     ensures enough { vec_len out.old + length (refusal_line refusal) ≤ vec_capacity out.old → is_ok result ≡ true }
 {
-    out.extend_from_slice(refused(refusal).bytes())
+    let mut line = Draft::new();
+    refuse(&mut line, refusal);
+    out.extend_from_slice(line.bytes())
 }

@@ -6,7 +6,8 @@ ghost use Rattle.text.specs.Law.{text_of, States};
 ghost use Rattle.text.specs.Outcome.{rows_of, asserted_of, short, text_answer, the_text};
 
 use crate::counted::counted;
-use crate::lines::line_at;
+use crate::draft::Draft;
+use crate::lines::draw;
 use refusal::Refusal;
 use std::alloc::AllocError;
 use target::table::Target;
@@ -43,9 +44,10 @@ fn append_lines(target: Target<'_>, out: &mut Vec<u8>) -> Result<(), AllocError>
     ensures enough { vec_len out.old + length (text_of target.entry.rows.now (named_by target.entry.assertions.now)) ≤ vec_capacity out.old → is_ok result ≡ true }
     ensures front { take (vec_len out.old) out.new.items ≡ out.old.items }
 {
-    // by line number, so that these are the lines that `line` writes
+    // by line number, so that these are the lines that `line` writes; one draft for all of them
+    let mut line = Draft::new();
     for n in 0..target.rows.len() + target.assertions.len() + 2 {
-        if let Some(line) = line_at(target, n) {
+        if draw(&mut line, target, n).is_some() {
             out.extend_from_slice(line.bytes())?;
         }
     }

@@ -50,7 +50,7 @@ module _ {R : Type 0} (whole : ℕ → R) where
       fits false e = absurd (cc)
 
   -- an order leaves long tables long
-  entered_long : (at : ℕ) (p : Pages R) (a : Act) → Long p → Long (entered whole at p a).1
+  pub entered_long : (at : ℕ) (p : Pages R) (a : Act) → Long p → Long (entered whole at p a).1
   entered_long at p (Declare k) l = by_fit at p k l (register_fits whole p k) refl
   entered_long at p (Constant k n) l = l
   entered_long at p (Truth b) l = l
@@ -61,7 +61,7 @@ module _ {R : Type 0} (whole : ℕ → R) where
   followed_long (Ok n, q) rest l h = h q l
   followed_long (Err e, q) rest l h = l
 
-  all_long : (os : List Order) (p : Pages R) → Long p → Long (entered_all whole os p).1
+  pub all_long : (os : List Order) (p : Pages R) → Long p → Long (entered_all whole os p).1
   all_long [] p l = l
   all_long (o ∷ os) p l = followed_long (entered whole o.place p o.act) (entered_all whole os) (entered_long o.place p o.act l) (λ q k. all_long os q k)
 

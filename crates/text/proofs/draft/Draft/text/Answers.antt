@@ -1,7 +1,7 @@
 use Rattle.std.proofs.Common.{rules}
 use Rattle.std.proofs.lemmas.Slice.{overwrites}
-use Rattle.text.proofs.Kept.{kept_part}
+use Rattle.text.proofs.Kept.{kept_whole}
 use Rattle.text.proofs.draft.Draft.text.Goals as goal
 
-pub returns : goal.returns
-returns c = search (rules, overwrites, kept_part)
+pub returns-then-end-le128 : goal.returns-then-end-le128
+returns-then-end-le128 c = search (rules, overwrites, kept_whole)
