@@ -12,7 +12,7 @@ use Rattle.source.specs.declared.operator.Operator.TheVariants.{Ite}
 use Rattle.source.specs.declared.value.Value.{Value}
 use Rattle.source.specs.declared.value.Value as values
 use Rattle.source.proofs.Closure.{closed}
-use Rattle.source.proofs.Taking.{parts, number, width_is, alike_same}
+use Rattle.source.proofs.Taking.{parts, number, width_is, alike_same, pair}
 
 -- the widths, in numbers
 pub width_parts : (k : ℕ) → is_width k ≡ true → (1 ≤ k) × (k ≤ 32)
@@ -58,23 +58,18 @@ pub record Pair (a b : Value) : Type 0 where
   pub first : number_of a < 2 ^ bits_of a
   pub second : number_of b < 2 ^ bits_of a
 
-joined_pair : (a b : Value) → is_value a ≡ true → is_value b ≡ true → alike (sort_of a) (sort_of b) ≡ true → Pair a b
-joined_pair a b p q e =
-    let s = alike_widths a b e in
-    let n = value_number a p in
-    record {
-      width = width_from (bits_of a) n.least n.most;
-      same = s;
-      first = n.below;
-      second = subst (λ (k : ℕ). number_of b < 2 ^ k) s (value_number b q).below;
-    }
-
 pub pair_of : (a b c : Value) → (are_values 2 a b c && (fits two_bits (sort_of a) (sort_of b) (sort_of c) && true)) ≡ true → Pair a b
 pair_of a b c t =
     let h = and_parts (are_values 2 a b c) (fits two_bits (sort_of a) (sort_of b) (sort_of c) && true) t in
     let v = and_parts (is_value a) (is_value b && true) h.0 in
-    let f = and_parts (is_bits (sort_of a) && alike (sort_of a) (sort_of b)) true h.1 in
-    joined_pair a b v.0 (and_parts (is_value b) true v.1).0 (and_parts (is_bits (sort_of a)) (alike (sort_of a) (sort_of b)) f.0).1
+    let f = and_parts (is_bits (sort_of a)) (alike (sort_of a) (sort_of b)) (and_parts (is_bits (sort_of a) && alike (sort_of a) (sort_of b)) true h.1).0 in
+    let p = pair a b v.0 (and_parts (is_value b) true v.1).0 f.0 f.1 in
+    record {
+      width = width_from (bits_of a) p.first.least p.first.most;
+      same = alike_widths a b f.1;
+      first = p.first.below;
+      second = p.second;
+    }
 
 -- a condition, and two branches of one width
 pub branches_of : (a b c : Value) → taken Ite a b c ≡ true → (is_value b ≡ true) × (is_value c ≡ true) × (bits_of c ≡ bits_of b)

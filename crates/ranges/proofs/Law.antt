@@ -1,6 +1,6 @@
 -- The records of a table's rows describe the rows' values, for any keeper.
-use Rattle.std.proofs.Common.{◌≡◌, ℕ, nat_le, ◌+◌, ◌^◌, ◌<◌, ◌≤◌, true, List, [], ◌∷◌, length, get_or, take, set, sym, ap, ◌∙◌, subst, inl, inr, arith, length-set, get_or-set_other, get_or-take, get_or-set_same}
-use Rattle.std.proofs.lemmas.Bool.{cases_eq, and_from, le-leb}
+use Rattle.std.proofs.Common.{◌≡◌, ℕ, ◌+◌, ◌^◌, ◌<◌, ◌≤◌, true, List, [], ◌∷◌, length, get_or, take, set, sym, ap, ◌∙◌, subst, inl, inr, arith, length-set, get_or-set_other, get_or-take, get_or-set_same}
+use Rattle.std.proofs.lemmas.Bool.{cases_eq}
 use Rattle.source.specs.Widths.{is_width}
 use Rattle.source.specs.Sorts.{shape_of, count_of}
 use Rattle.source.specs.Values.{bits_of, number_of, taken, value_of}
@@ -8,14 +8,14 @@ use Rattle.source.specs.declared.operator.Operator.{Operator}
 use Rattle.source.specs.declared.value.Value.{Value}
 use Rattle.source.specs.declared.width.Width.{Width}
 use Rattle.keeper.specs.Descriptions.{Describes}
-use Rattle.keeper.specs.Results.{value_number}
+use Rattle.keeper.specs.Results.{value_number, width_from}
 use Rattle.ranges.specs.declared.entry.Entry.{Entry}
 use Rattle.ranges.specs.declared.entry.Entry.TheVariants.{Any, Number, Applied}
 use Rattle.ranges.specs.Filled.{record_at, record_of, filled}
 use Rattle.ranges.specs.Meaning.{value_at, Row, Rows}
 
 is_width_lem : (w : Width) → is_width w.bits ≡ true
-is_width_lem w = and_from (nat_le 1 w.bits) (nat_le w.bits 32) (le-leb 1 w.bits w.ok.0) (le-leb w.bits 32 w.ok.1)
+is_width_lem w = width_from w.bits w.ok.0 w.ok.1
 
 -- what the laws of keepers say of the records that are made
 pub record Lawful {R : Type 0} (bears : R → ℕ) (holds : R → ℕ → Type 0) (whole : ℕ → R) (exact : ℕ → ℕ → R) (makes : Operator → ℕ → R → R → R → R) : Type 0 where

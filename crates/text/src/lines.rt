@@ -1,6 +1,6 @@
 // The lines of the text. Each has a definition of its own; what they share is the draft, one for all lines of a text. (No
 // `write!`: draft.rt says why.)
-ghost use Rattle.std.specs.Prelude.{◌≡◌, true, Some, None, is_some, if◌then◌else◌, nat_lt};
+ghost use Rattle.std.specs.Prelude.{◌≡◌, true, false, Some, None, is_some, if◌then◌else◌, nat_lt};
 ghost use Rattle.text.specs.Lines.{declared_line, defined_line, assert_line, named_by, line_of, line_count};
 
 use crate::draft::Draft;
@@ -42,10 +42,11 @@ fn assert(draft: &mut Draft, row: usize)
     draft.text(")\n");
 }
 
-// Makes the draft line `n` of the text of these rows and assertions, where there is one.
+// Makes the draft line `n` of the text of these rows and assertions, where there is one, and else leaves it as it was.
 #[tactic(auto, using(crate::proofs::Places::places))]
 pub(crate) fn draw(draft: &mut Draft, target: Target<'_>, n: usize) -> Option<()>
     ensures any { result ≡ (if nat_lt n (line_count target.entry.rows.now (named_by target.entry.assertions.now)) then Some tt else None) }
+    ensures spared { is_some result ≡ false → draft.new ≡ draft.old }
     ensures line { is_some result ≡ true → draft.new ≡ line_of target.entry.rows.now (named_by target.entry.assertions.now) n }
 {
     let Target { rows, assertions } = target;
